@@ -1,0 +1,17 @@
+pub mod DistinctLits
+pub mod Signs
+pub mod RoundSteps
+pub mod ValueLines
+pub mod FullTrail
+pub mod FixedPoint
+pub mod Known
+pub mod ProofSound
+pub mod WalkMore
+pub mod Standing
+pub mod LessonSound
+pub mod RootLesson
+pub mod PropagationFits
+pub mod OriginalsFound
+pub mod RootConflict
+pub mod ProofEnds
+pub mod Flags

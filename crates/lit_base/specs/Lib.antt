@@ -1,0 +1,15 @@
+pub mod Literal
+pub mod Truth
+pub mod Cnf
+pub mod Distinct
+pub mod Trail
+pub mod Rounds
+pub mod Text
+pub mod Laws
+pub mod Walk
+pub mod Judgement
+pub mod Named
+pub mod Fits
+pub mod Analysis
+pub mod Refutation
+pub mod Examples

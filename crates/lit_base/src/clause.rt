@@ -1,0 +1,125 @@
+ghost use Rattle.std.specs.Prelude.{◌≡◌, ◌<◌, ℕ, ◌==◌, true, false, not, slice_index_or, if◌then◌else◌, vec_len, IfOk};
+ghost use Rattle.lit_base.specs.Distinct.{distinct};
+ghost use Rattle.lit_base.specs.Truth.{is_clause_true};
+
+use crate::list::List;
+use crate::lit::Lit;
+use crate::memory::NoMemory;
+use std::alloc::Global;
+use std::collections::BTreeSet;
+use std::marker::Model;
+
+/// Up to this many literals each is sought among those kept.
+const SHORT: usize = 32;
+
+/// Up to this many literals a set holds what was met; for more a flag for each literal there is, so that clearing the
+/// flags takes fewer steps than n log n.
+const LONG: usize = 131_072;
+
+/// One more than the greatest index of a literal.
+const PLACES: usize = 2_000_002;
+
+/// A clause: the disjunction of its literals, each of which it holds once.
+#[derive(Debug, Drop)]
+pub struct Clause {
+    lits: List<Lit>,
+}
+
+impl Model for Clause {
+    ghost use Rattle.std.specs.Prelude.{List};
+    ghost use Rattle.lit_base.specs.Literal.{Literal};
+
+    ghost Value = { List Literal };
+
+    ghost view = { λ c. c.lits };
+}
+
+impl Clause {
+    /// The clause of these literals, each kept once, in the order of first occurrence.
+    ///
+    /// Takes at most some n log n steps for n literals.
+    pub fn of(alloc: Global, lits: &[Lit]) -> Result<Clause, NoMemory>
+        ensures { IfOk result (λ clause. clause ≡ distinct lits.now) }
+    {
+        let lits = if lits.len() <= SHORT {
+            distinct_by_search(alloc, lits)?
+        } else if lits.len() <= LONG {
+            distinct_by_set(alloc, lits)?
+        } else {
+            distinct_by_flags(alloc, lits)?
+        };
+        Ok(Clause { lits })
+    }
+
+    /// Whether a literal of the clause is true in the model.
+    pub(crate) fn is_true_in(&self, model: &crate::Model) -> bool
+        ensures { result ≡ is_clause_true model.now self.now }
+    {
+        self.lits.as_slice().iter().any(|lit| model.is_true(*lit))
+    }
+
+    /// The literals of the clause, in order.
+    pub fn lits(&self) -> &[Lit]
+        ensures { result.now ≡ self.now }
+    {
+        self.lits.as_slice()
+    }
+}
+
+fn distinct_by_search(alloc: Global, lits: &[Lit]) -> Result<List<Lit>, NoMemory>
+    ensures { IfOk result (λ kept. kept ≡ distinct lits.now) }
+{
+    let mut kept = List::new(alloc);
+    for lit in lits {
+        if !kept.as_slice().contains(lit) {
+            kept.push(*lit)?;
+        }
+    }
+    Ok(kept)
+}
+
+fn distinct_by_set(alloc: Global, lits: &[Lit]) -> Result<List<Lit>, NoMemory>
+    ensures { IfOk result (λ kept. kept ≡ distinct lits.now) }
+{
+    let mut kept = List::new(alloc);
+    let mut met = BTreeSet::new(alloc);
+    for lit in lits {
+        if met.insert(lit.index())? {
+            kept.push(*lit)?;
+        }
+    }
+    Ok(kept)
+}
+
+fn distinct_by_flags(alloc: Global, lits: &[Lit]) -> Result<List<Lit>, NoMemory>
+    ensures { IfOk result (λ kept. kept ≡ distinct lits.now) }
+{
+    let mut kept = List::new(alloc);
+    let mut met = clear_flags(alloc, PLACES)?;
+    for lit in lits {
+        if set_flag(&mut met, lit.index()) {
+            kept.push(*lit)?;
+        }
+    }
+    Ok(kept)
+}
+
+/// So many flags, none of them set.
+fn clear_flags(alloc: Global, count: usize) -> Result<Vec<bool>, NoMemory>
+    ensures len { IfOk result (λ flags. vec_len flags ≡ count) }
+    ensures clear { IfOk result (λ flags. (k : ℕ) → slice_index_or flags.items k false ≡ false) }
+{
+    Ok(vec![in alloc; false; count]?)
+}
+
+/// Sets the flag at a place, and answers whether it was clear.
+fn set_flag(flags: &mut Vec<bool>, place: usize) -> bool
+    requires { place < vec_len flags.old }
+    ensures clear { result ≡ not (slice_index_or flags.old.items place false) }
+    ensures len { vec_len flags.new ≡ vec_len flags.old }
+    ensures set { (k : ℕ) → slice_index_or flags.new.items k false ≡ (if place == k then true else slice_index_or flags.old.items k false) }
+{
+    let was_set = flags[place];
+    flags[place] = true;
+    !was_set
+}
