@@ -1,0 +1,6 @@
+pub mod Told
+pub mod Inputs
+pub mod Outputs
+pub mod Memory
+pub mod Sure
+pub mod Real
