@@ -1,0 +1,11 @@
+pub mod Results
+pub mod Numbers
+pub mod Capped
+pub mod Lexing
+pub mod Follow
+pub mod Endings
+pub mod Numerals
+pub mod Fed
+pub mod Whole
+pub mod Comments
+pub mod Written

@@ -1,0 +1,34 @@
+-- Lemmas on steps that may fail.
+use Rattle.std.proofs.Common.{◌≡◌, refl, ◌∙◌, Result, Ok, Err}
+use Rattle.cnf_text.specs.declared.fault.CnfFault.{CnfFault}
+use Rattle.cnf_text.specs.declared.fault.CnfFault.TheVariants.{NoHeader, BadHeader, BadNumber, VariableAbove, TooManyClauses, TooFewClauses, Unclosed, OverLimit, TooLong, NoMemory}
+use Rattle.cnf_text.specs.Faults.{OnFault, on_ok, Judges, Gives}
+
+pub on_ok-assoc : {A B C : Type 0} (r : Result A CnfFault) (f : A → Result B CnfFault) (g : B → Result C CnfFault) → on_ok (on_ok r f) g ≡ on_ok r (λ x. on_ok (f x) g)
+on_ok-assoc (Ok x) f g = refl
+on_ok-assoc (Err fault) f g = refl
+
+pub on_ok-same : {A B : Type 0} (r : Result A CnfFault) (f g : A → Result B CnfFault) → ((x : A) → f x ≡ g x) → on_ok r f ≡ on_ok r g
+on_ok-same (Ok x) f g same = same x
+on_ok-same (Err fault) f g same = refl
+
+-- what a fault owes follows from more
+pub OnFault-weaker : (fault : CnfFault) (P Q : Type 0) → (P → Q) → OnFault fault P → OnFault fault Q
+OnFault-weaker (NoHeader line) P Q f p = f p
+OnFault-weaker (BadHeader line) P Q f p = f p
+OnFault-weaker (BadNumber line) P Q f p = f p
+OnFault-weaker (VariableAbove line) P Q f p = f p
+OnFault-weaker (TooManyClauses line) P Q f p = f p
+OnFault-weaker (TooFewClauses line) P Q f p = f p
+OnFault-weaker (Unclosed line) P Q f p = f p
+OnFault-weaker (OverLimit which line) P Q f p = f p
+OnFault-weaker (TooLong line) P Q f p = f p
+OnFault-weaker NoMemory P Q f p = tt
+
+pub judges_same : {A S : Type 0} (r : Result A CnfFault) (new : S) (wanted same : Result S CnfFault) → same ≡ wanted → Judges r new wanted → Judges r new same
+judges_same (Ok done) new wanted same is judged = is ∙ judged
+judges_same (Err fault) new wanted same is judged = OnFault-weaker fault (wanted ≡ Err fault) (same ≡ Err fault) (λ e. is ∙ e) judged
+
+pub gives_same : {A : Type 0} (r : Result A CnfFault) (wanted same : Result A CnfFault) → same ≡ wanted → Gives r wanted → Gives r same
+gives_same (Ok value) wanted same is given = is ∙ given
+gives_same (Err fault) wanted same is given = OnFault-weaker fault (wanted ≡ Err fault) (same ≡ Err fault) (λ e. is ∙ e) given

@@ -1,0 +1,12 @@
+pub mod Cut
+pub mod Pieces
+pub mod Class
+pub mod Numeral
+pub mod Faults
+pub mod Progress
+pub mod Judge
+pub mod Machine
+pub mod State
+pub mod Reading
+pub mod Spelling
+pub mod Laws
