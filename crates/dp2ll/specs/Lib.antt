@@ -1,0 +1,9 @@
+pub mod Job
+pub mod Ending
+pub mod Outcome
+pub mod Reading
+pub mod Logging
+pub mod Answering
+pub mod Complaint
+pub mod Serving
+pub mod Headline

@@ -1,0 +1,58 @@
+//! dp2ll decides formulas in conjunctive normal form: `dp2ll solve FILE`.
+#![tactic(auto)]
+
+mod analyse;
+mod answer;
+mod complaint;
+mod ending;
+mod log;
+mod propagate;
+mod read;
+mod run;
+#[cfg(test)]
+mod tests;
+mod texts;
+mod values;
+mod verdict;
+mod words;
+
+use complaint::complain;
+use desk_io::{NoGate, RealInputs, RealOutputs};
+use ending::Ending;
+use std::io::ErrorKind;
+use std::process::ExitCode;
+use std::{env, io};
+
+/// The words after the program's name.
+///
+/// A word that is no text makes them no command line, as no words do.
+fn arguments(rt: &HostRuntime) -> Result<Vec<String>, io::Error> {
+    let mut words = Vec::new(rt.alloc());
+    match env::args(rt) {
+        Ok(arguments) => {
+            for word in arguments.skip(1) {
+                words.push(word)?;
+            }
+            Ok(words)
+        }
+        Err(error) if error.kind() == ErrorKind::OutOfMemory => Err(error),
+        Err(_) => Ok(words),
+    }
+}
+
+fn main(rt: HostRuntime) -> ExitCode {
+    let mut inputs = RealInputs::new(rt);
+    let mut outputs = RealOutputs::new(rt);
+    let status = match arguments(&rt) {
+        Ok(words) => run::run(
+            &rt,
+            rt.alloc(),
+            words.as_slice(),
+            &mut inputs,
+            &mut outputs,
+            &NoGate,
+        ),
+        Err(_) => complain(rt.alloc(), &mut outputs, Ending::NoMemory).status(),
+    };
+    ExitCode::from(status)
+}

@@ -1,0 +1,100 @@
+ghost use Rattle.std.specs.Prelude.{◌≡◌, ℕ, [], ◌<◌, List, IfOk, length, vec_len};
+ghost use Rattle.cnf_text.specs.Reading.{HasRead};
+ghost use Rattle.dp2ll.specs.Reading.{BeginsFormula, Finds, KeepsBegun, ReadsPiece, ReadsPieces, refusal_of};
+
+use crate::ending::Ending;
+use cnf_text::{CnfFault, Reader};
+use desk_io::{Inputs, Slot};
+use lit_base::{Formula, NoMemory};
+use std::alloc::Global;
+
+/// How many bytes are asked for at a time.
+const PIECE: usize = 65_536;
+
+/// More turns than a formula may have bytes, each of which takes at least one.
+const MOST_TURNS: u64 = 268_435_457;
+
+/// Reads the file as a formula, piece by piece, up to its end or the line that ends the input.
+///
+/// Each piece is judged before the next is read.
+pub(crate) fn read_formula<I: Inputs>(
+    alloc: Global,
+    file: &str,
+    inputs: &mut I,
+) -> Result<Formula, Ending>
+    ensures begun { BeginsFormula file.now (I.told inputs.old) (I.told inputs.new) }
+    ensures found { Finds file.now (I.told inputs.old) (I.told inputs.new) result }
+{
+    let mut reader = Reader::new(alloc);
+    if inputs.begin(Slot::Formula, file).is_err() {
+        return Err(Ending::ReadFault);
+    }
+    let mut buffer = match zeros(alloc) {
+        Ok(buffer) => buffer,
+        Err(_) => return Err(Ending::NoMemory),
+    };
+    read_pieces(inputs, &mut reader, buffer.as_mut_slice())?;
+    match reader.end() {
+        Ok(formula) => Ok(formula),
+        Err(fault) => Err(refusal(fault)),
+    }
+}
+
+/// The ending of a fault of the reader.
+fn refusal(fault: CnfFault) -> Ending
+    ensures { result ≡ refusal_of fault }
+{
+    match fault {
+        CnfFault::NoMemory => Ending::NoMemory,
+        _ => Ending::NoFormula(fault),
+    }
+}
+
+/// A buffer for one piece.
+fn zeros(alloc: Global) -> Result<Vec<u8>, NoMemory>
+    ensures { IfOk result (λ buffer. vec_len buffer ≡ PIECE) }
+{
+    Ok(vec![in alloc; 0; PIECE]?)
+}
+
+/// Reads one piece and judges it. `Ok(true)` stops the reading: the file ends, or the line that ends the input was met.
+fn read_piece<I: Inputs>(
+    inputs: &mut I,
+    reader: &mut Reader,
+    buffer: &mut [u8],
+) -> Result<bool, Ending>
+    requires { 0 < length buffer.old }
+    ensures kept { KeepsBegun (I.told inputs.old) (I.told inputs.new) }
+    ensures piece { (taken : List ℕ) → HasRead reader.old taken → ReadsPiece (I.told inputs.old) (I.told inputs.new) reader.new taken result }
+{
+    let count = match inputs.read(Slot::Formula, buffer) {
+        Ok(count) => count,
+        Err(_) => return Err(Ending::ReadFault),
+    };
+    if count == 0 {
+        return Ok(true);
+    }
+    match reader.feed(&buffer[..count]) {
+        Ok(()) => Ok(reader.done()),
+        Err(fault) => Err(refusal(fault)),
+    }
+}
+
+/// Reads pieces until reading stops. Each takes at least a byte, so the limit of bytes ends the loop.
+fn read_pieces<I: Inputs>(
+    inputs: &mut I,
+    reader: &mut Reader,
+    buffer: &mut [u8],
+) -> Result<(), Ending>
+    requires room { 0 < length buffer.old }
+    requires fresh { HasRead reader.old [] }
+    ensures kept { KeepsBegun (I.told inputs.old) (I.told inputs.new) }
+    ensures pieces { ReadsPieces (I.told inputs.old) (I.told inputs.new) reader.new result }
+{
+    for _ in 0..MOST_TURNS {
+        if read_piece(inputs, reader, buffer)? {
+            return Ok(());
+        }
+    }
+    unreachable!()
+}

@@ -1,0 +1,116 @@
+ghost use Rattle.std.specs.Prelude.{◌≡◌, List, ℕ};
+ghost use Rattle.dp2ll.specs.Answering.{KeepsComplaint};
+ghost use Rattle.dp2ll.specs.Serving.{Solves, Serves, desk};
+ghost use Rattle.dp2ll.specs.Headline.{run_of, Headline, Words, IsSolved, IsModel, IsRefutation, IsNeverUnknown, IsRefusal, KeepsPorts, IsComplete};
+ghost use Rattle.desk_io.specs.declared.Port.TheVariants.{Answer};
+ghost use Rattle.dp2ll.specs.Job.{job_of};
+ghost use Rattle.std.specs.Prelude.{map, string_bytes};
+
+use crate::answer::answer;
+use crate::complaint::complain;
+use crate::ending::Ending;
+use crate::read::read_formula;
+use crate::words::{Job, WordFault, read_words};
+use desk_io::{Gate, Inputs, Outputs};
+use lit_base::Text;
+use std::alloc::Global;
+use std::sync::Wait;
+use std::thread::Threads;
+
+/// Runs the program on the words after its name, and gives its exit status; it waits for nobody.
+///
+/// Status 10: a model was printed. 7: propagation decided nothing. 1: the words are no command
+/// line. 2: the file is no formula. 3: it could not be read. 4: the answer could not be written.
+/// 5: memory could not be had.
+pub fn run_still<I: Inputs, O: Outputs>(
+    alloc: Global,
+    words: &[String],
+    inputs: &mut I,
+    outputs: &mut O,
+) -> u8
+    ensures headline { Headline (run_of words.now (I.told inputs.old) (I.told inputs.new) (O.told outputs.old) (O.told outputs.new) result) }
+    ensures words { Words (run_of words.now (I.told inputs.old) (I.told inputs.new) (O.told outputs.old) (O.told outputs.new) result) }
+    ensures solved { IsSolved (run_of words.now (I.told inputs.old) (I.told inputs.new) (O.told outputs.old) (O.told outputs.new) result) }
+    ensures model { IsModel (run_of words.now (I.told inputs.old) (I.told inputs.new) (O.told outputs.old) (O.told outputs.new) result) }
+    ensures refuted { IsRefutation (run_of words.now (I.told inputs.old) (I.told inputs.new) (O.told outputs.old) (O.told outputs.new) result) }
+    ensures unknown { IsNeverUnknown (run_of words.now (I.told inputs.old) (I.told inputs.new) (O.told outputs.old) (O.told outputs.new) result) }
+    ensures refused { IsRefusal (run_of words.now (I.told inputs.old) (I.told inputs.new) (O.told outputs.old) (O.told outputs.new) result) }
+    ensures ports { KeepsPorts (run_of words.now (I.told inputs.old) (I.told inputs.new) (O.told outputs.old) (O.told outputs.new) result) }
+    ensures complete { IsComplete (run_of words.now (I.told inputs.old) (I.told inputs.new) (O.told outputs.old) (O.told outputs.new) result) }
+{
+    serve_aloud(alloc, words, inputs, outputs)
+}
+
+/// Serves the words, and writes the complaint of the ending.
+fn serve_aloud<I: Inputs, O: Outputs>(
+    alloc: Global,
+    words: &[String],
+    inputs: &mut I,
+    outputs: &mut O,
+) -> u8
+    ensures { Headline (run_of words.now (I.told inputs.old) (I.told inputs.new) (O.told outputs.old) (O.told outputs.new) result) }
+{
+    let ending = serve(alloc, words, inputs, outputs);
+    complain(alloc, outputs, ending).status()
+}
+
+/// Serves the words, without the complaint.
+fn serve<I: Inputs, O: Outputs>(
+    alloc: Global,
+    words: &[String],
+    inputs: &mut I,
+    outputs: &mut O,
+) -> Ending
+    ensures serves { Serves (job_of (map string_bytes words.now)) (desk (I.told inputs.old) (O.told outputs.old))
+        (desk (I.told inputs.new) (O.told outputs.new)) result }
+    ensures complaint { KeepsComplaint (O.told outputs.old) (O.told outputs.new) }
+{
+    match read_words(alloc, words) {
+        Ok(Job::Solve { file, log }) => solve(alloc, file.as_str(), &log, inputs, outputs),
+        Err(WordFault::Usage) => Ending::Usage,
+        Err(WordFault::NoMemory) => Ending::NoMemory,
+    }
+}
+
+/// Reads the file as a formula, decides it and writes log and answer.
+fn solve<I: Inputs, O: Outputs>(
+    alloc: Global,
+    file: &str,
+    log: &Option<Text>,
+    inputs: &mut I,
+    outputs: &mut O,
+) -> Ending
+    ensures solves { Solves file.now log.now (desk (I.told inputs.old) (O.told outputs.old)) (desk (I.told inputs.new) (O.told outputs.new)) result }
+    ensures complaint { KeepsComplaint (O.told outputs.old) (O.told outputs.new) }
+{
+    match read_formula(alloc, file, inputs) {
+        Ok(formula) => answer(alloc, &formula, log, outputs),
+        Err(ending) => ending,
+    }
+}
+
+/// Runs the program on the words after its name, and gives its exit status.
+///
+/// It does what `run_still` does; the runtime and the gate serve cores that run side by side, of which there are none yet.
+pub fn run<R: Threads + Wait + Sync, I: Inputs, O: Outputs, G: Gate>(
+    rt: &R,
+    alloc: Global,
+    words: &[String],
+    inputs: &mut I,
+    outputs: &mut O,
+    gate: &G,
+) -> u8
+    ensures headline { Headline (run_of words.now (I.told inputs.old) (I.told inputs.new) (O.told outputs.old) (O.told outputs.new) result) }
+    ensures words { Words (run_of words.now (I.told inputs.old) (I.told inputs.new) (O.told outputs.old) (O.told outputs.new) result) }
+    ensures solved { IsSolved (run_of words.now (I.told inputs.old) (I.told inputs.new) (O.told outputs.old) (O.told outputs.new) result) }
+    ensures model { IsModel (run_of words.now (I.told inputs.old) (I.told inputs.new) (O.told outputs.old) (O.told outputs.new) result) }
+    ensures refuted { IsRefutation (run_of words.now (I.told inputs.old) (I.told inputs.new) (O.told outputs.old) (O.told outputs.new) result) }
+    ensures unknown { IsNeverUnknown (run_of words.now (I.told inputs.old) (I.told inputs.new) (O.told outputs.old) (O.told outputs.new) result) }
+    ensures refused { IsRefusal (run_of words.now (I.told inputs.old) (I.told inputs.new) (O.told outputs.old) (O.told outputs.new) result) }
+    ensures ports { KeepsPorts (run_of words.now (I.told inputs.old) (I.told inputs.new) (O.told outputs.old) (O.told outputs.new) result) }
+    ensures complete { IsComplete (run_of words.now (I.told inputs.old) (I.told inputs.new) (O.told outputs.old) (O.told outputs.new) result) }
+{
+    let _ = rt;
+    let _ = gate;
+    run_still(alloc, words, inputs, outputs)
+}

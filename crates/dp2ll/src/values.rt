@@ -1,0 +1,73 @@
+ghost use Rattle.std.specs.Prelude.{◌≡◌, ◌+◌, ◌-◌, ◌*◌, ◌/◌, ◌≤◌, ◌++◌, ◌∷◌, length, take, drop, IfOk, OnOk};
+ghost use Rattle.lit_base.specs.Literal.{literal_text};
+ghost use Rattle.lit_base.specs.Text.{value_words, spaced, value_line};
+ghost use Rattle.dp2ll.specs.Outcome.{sat_text};
+
+use itoa::Buffer;
+use lit_base::{Model, NoMemory};
+use std::alloc::Global;
+
+/// The most words that a `v` line has.
+const WORDS: usize = 16;
+
+/// The answer of a model: the `s` line, and the `v` lines of its values.
+pub(crate) fn sat_text(alloc: Global, model: &Model) -> Result<Vec<u8>, NoMemory>
+    ensures { IfOk result (λ text. text.items ≡ sat_text model.now) }
+{
+    let values = model.values();
+    let lines = values.len() / WORDS + 1;
+    let mut text = Vec::from_slice(alloc, b"s SATISFIABLE\n")?;
+    for line in 0..lines {
+        push_line(&mut text, values, line)?;
+    }
+    Ok(text)
+}
+
+/// Adds the `v` line of this number, counted from 0: sixteen words, or those that are left with the 0 that ends them.
+fn push_line(text: &mut Vec<u8>, values: &[bool], line: usize) -> Result<(), NoMemory>
+    requires { line ≤ length values.now / 16 }
+    ensures { OnOk result (text.new.items ≡ text.old.items ++ value_line (take 16 (drop (16 * line) (value_words 1 values.now)))) }
+{
+    let start = WORDS * line;
+    let end = values.len().min(start + WORDS);
+    let ending = if end < start + WORDS {
+        b" 0\n".as_slice()
+    } else {
+        b"\n".as_slice()
+    };
+    text.push(b'v')?;
+    push_values(text, values, start, end)?;
+    text.extend_from_slice(ending)?;
+    Ok(())
+}
+
+/// Adds the words of the values from `start` to before `end`, each after a blank.
+fn push_values(
+    text: &mut Vec<u8>,
+    values: &[bool],
+    start: usize,
+    end: usize,
+) -> Result<(), NoMemory>
+    requires order { start ≤ end }
+    requires within { end ≤ length values.now }
+    ensures { OnOk result (text.new.items ≡ text.old.items ++ spaced (take (end - start) (drop start (value_words 1 values.now)))) }
+{
+    for index in start..end {
+        push_value(text, index + 1, values[index])?;
+    }
+    Ok(())
+}
+
+/// Adds a blank and the literal of this variable and sign.
+fn push_value(text: &mut Vec<u8>, variable: usize, positive: bool) -> Result<(), NoMemory>
+    ensures { OnOk result (text.new.items ≡ text.old.items ++ 32 ∷ literal_text (record { variable = variable; positive = positive })) }
+{
+    let mut buffer = Buffer::new();
+    text.extend_from_slice(if positive {
+        b" ".as_slice()
+    } else {
+        b" -".as_slice()
+    })?;
+    text.extend_from_slice(buffer.format(variable).as_bytes())?;
+    Ok(())
+}
