@@ -17,16 +17,16 @@ use Rattle.lit_base.proofs.RoundSteps.{rounds-conflict, rounds-fixed, rounds-mor
 use Rattle.lit_base.proofs.FullTrail.{satisfies_full}
 
 -- 1 for a test that holds, else 0
-abbrev one_if : Bool → ℕ
+abbrev pub one_if : Bool → ℕ
 one_if true = 1
 one_if false = 0
 
 -- how many of the variables from 1 to n do not stand on the trail
-abbrev free_count : ℕ → List Entry → ℕ
+abbrev pub free_count : ℕ → List Entry → ℕ
 free_count zero trail = 0
 free_count (suc n) trail = one_if (is_free trail (suc n)) + free_count n trail
 
-free_count-le : (n : ℕ) (trail : List Entry) → free_count n trail ≤ n
+pub free_count-le : (n : ℕ) (trail : List Entry) → free_count n trail ≤ n
 free_count-le zero trail = omega arith
 free_count-le (suc n) trail = at_most_one (is_free trail (suc n)) (free_count n trail) (free_count-le n trail)
   where
@@ -40,7 +40,7 @@ is_free-cons e trail v true is = ap (λ t. is_none (cond t (Some e.lit.positive)
 is_free-cons e trail v false is = ap (λ t. is_none (cond t (Some e.lit.positive) (sign_of trail v))) is
 
 -- one more entry leaves no more variables free
-free_count-mono : (n : ℕ) (e : Entry) (trail : List Entry) → free_count n (e ∷ trail) ≤ free_count n trail
+pub free_count-mono : (n : ℕ) (e : Entry) (trail : List Entry) → free_count n (e ∷ trail) ≤ free_count n trail
 free_count-mono zero e trail = omega arith
 free_count-mono (suc n) e trail = by_test (e.lit.variable == suc n) refl (free_count-mono n e trail)
   where
@@ -53,7 +53,7 @@ free_count-mono (suc n) e trail = by_test (e.lit.variable == suc n) refl (free_c
         omega arith
 
 -- an entry of a variable that was free takes one
-free_count-less : (n : ℕ) (e : Entry) (trail : List Entry) → is_free trail e.lit.variable ≡ true → 1 ≤ e.lit.variable → e.lit.variable ≤ n →
+pub free_count-less : (n : ℕ) (e : Entry) (trail : List Entry) → is_free trail e.lit.variable ≡ true → 1 ≤ e.lit.variable → e.lit.variable ≤ n →
     free_count n (e ∷ trail) + 1 ≤ free_count n trail
 free_count-less zero e trail free low high = absurd (omega arith)
 free_count-less (suc n) e trail free low high = by_test (e.lit.variable == suc n) refl (free_count-less n e trail free low)
@@ -82,7 +82,7 @@ find_of_all P p (m ∷ others) l all is = by_test (p m) refl (find_of_all P p ot
     by_test false fails rest = rest (sym (ap (λ t. cond t (Some m) (find p others)) fails) ∙ is)
 
 -- what holds of each literal of a clause holds of its unit
-unit_of_all : (P : Literal → Type 0) (trail : List Entry) (lits : List Literal) (l : Literal) → All P lits → unit_of trail lits ≡ Some l → P l
+pub unit_of_all : (P : Literal → Type 0) (trail : List Entry) (lits : List Literal) (l : Literal) → All P lits → unit_of trail lits ≡ Some l → P l
 unit_of_all P trail lits l all is = by_first (find (λ m. not (is_false trail m)) lits) refl
   where
     by_test : (k : Literal) → find (λ m. not (is_false trail m)) lits ≡ Some k → (b : Bool) → cond b (Some k) None ≡ Some l → P l
@@ -128,7 +128,7 @@ with_unit_front name (Some l) trail = by_test (is_free trail l.variable)
     by_test true = (record { lit = l; level = level_now trail; reason = Some name } ∷ [], refl)
     by_test false = ([], refl)
 
-with_units_front : (snapshot : List Entry) (clauses : List NamedClause) (trail : List Entry) → (front : List Entry) × (with_units snapshot clauses trail ≡ front ++ trail)
+pub with_units_front : (snapshot : List Entry) (clauses : List NamedClause) (trail : List Entry) → (front : List Entry) × (with_units snapshot clauses trail ≡ front ++ trail)
 with_units_front snapshot [] trail = ([], refl)
 with_units_front snapshot (c ∷ others) trail =
     let first = with_unit_front c.name (unit_of snapshot c.lits) trail in

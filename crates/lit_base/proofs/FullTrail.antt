@@ -69,7 +69,7 @@ clause_by true b true q first rest h = refl
 clause_by true b false q first rest h = rest h
 clause_by false b p q first rest h = ap (λ t. t || q) (first refl)
 
-clause_true : (n : ℕ) (trail : List Entry) (lits : List Literal) → is_full n trail ≡ true → All (IsWithin n) lits → is_falsified trail lits ≡ false → is_clause_true (model_of n trail) lits ≡ true
+pub clause_true : (n : ℕ) (trail : List Entry) (lits : List Literal) → is_full n trail ≡ true → All (IsWithin n) lits → is_falsified trail lits ≡ false → is_clause_true (model_of n trail) lits ≡ true
 clause_true n trail [] full within holds = sym holds
 clause_true n trail (l ∷ ls) full within holds =
     clause_by (is_false trail l) (is_falsified trail ls) (is_true_in (model_of n trail) l) (is_clause_true (model_of n trail) ls)
@@ -77,7 +77,7 @@ clause_true n trail (l ∷ ls) full within holds =
     (clause_true n trail ls full (All-tail (IsWithin n) l ls within)) holds
 
 -- where no clause is falsified the first is not, and none of the others is
-first_holds : (trail : List Entry) (c : NamedClause) (others : List NamedClause) → conflict_of trail (c ∷ others) ≡ None → is_falsified trail c.lits ≡ false
+pub first_holds : (trail : List Entry) (c : NamedClause) (others : List NamedClause) → conflict_of trail (c ∷ others) ≡ None → is_falsified trail c.lits ≡ false
 first_holds trail c others none = by_test (is_falsified trail c.lits) refl
   where
     by_test : (b : Bool) → is_falsified trail c.lits ≡ b → b ≡ false
@@ -86,7 +86,7 @@ first_holds trail c others none = by_test (is_falsified trail c.lits) refl
         let clash : Some c.name ≡ None = sym found ∙ none in cc
     by_test false is = refl
 
-others_hold : (trail : List Entry) (c : NamedClause) (others : List NamedClause) → conflict_of trail (c ∷ others) ≡ None → conflict_of trail others ≡ None
+pub others_hold : (trail : List Entry) (c : NamedClause) (others : List NamedClause) → conflict_of trail (c ∷ others) ≡ None → conflict_of trail others ≡ None
 others_hold trail c others none =
     sym (ap (λ t. option_map (λ n. n.name) (cond t (Some c) (find (λ n. is_falsified trail n.lits) others))) (first_holds trail c others none)) ∙ none
 

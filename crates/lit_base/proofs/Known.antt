@@ -32,7 +32,7 @@ any_when p q step (x ∷ xs) some = elim (or_cases (p x) (list_any p xs) some) [
   | inr later ↦ or_right (q x) (list_any q xs) (any_when p q step xs later)
 ]
 
-beq_itself : (b : Bool) → beq b b ≡ true
+pub beq_itself : (b : Bool) → beq b b ≡ true
 beq_itself true = refl
 beq_itself false = refl
 
@@ -52,7 +52,7 @@ beq-not false false = refl
 pub same-negations : (a b : Literal) → same (negation a) (negation b) ≡ same a b
 same-negations a b = ap (λ t. (a.variable == b.variable) && t) (beq-not a.positive b.positive)
 
-not_not : (b : Bool) → not (not b) ≡ b
+pub not_not : (b : Bool) → not (not b) ≡ b
 not_not true = refl
 not_not false = refl
 

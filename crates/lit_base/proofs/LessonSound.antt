@@ -42,7 +42,7 @@ all_both p q r step (x ∷ xs) all others =
     and_from (r x) (list_all r xs) (step x first.0 second.0) (all_both p q r step xs first.1 second.1)
 
 -- the variables of a clause are marked once they are added to the marks
-marked_with : (lits : List Literal) (marked : List ℕ) → list_all (λ m. is_marked (map (λ l. l.variable) lits ++ marked) m.variable) lits ≡ true
+pub marked_with : (lits : List Literal) (marked : List ℕ) → list_all (λ m. is_marked (map (λ l. l.variable) lits ++ marked) m.variable) lits ≡ true
 marked_with lits marked =
     all_when (λ m. is_marked (map (λ l. l.variable) lits) m.variable) (λ m. is_marked (map (λ l. l.variable) lits ++ marked) m.variable)
     (λ m is. list_any-append (λ v. v == m.variable) (map (λ l. l.variable) lits) marked ∙ or_left (is_marked (map (λ l. l.variable) lits) m.variable) (is_marked marked m.variable) is)
@@ -56,7 +56,7 @@ marked_with lits marked =
         (all_when (λ m. is_marked (map (λ k. k.variable) ls) m.variable) (λ m. is_marked (map (λ k. k.variable) (l ∷ ls)) m.variable)
         (λ m is. or_right (l.variable == m.variable) (is_marked (map (λ k. k.variable) ls) m.variable) is) ls (own_marked ls))
 
-still_marked : (more marked : List ℕ) (v : ℕ) → is_marked marked v ≡ true → is_marked (more ++ marked) v ≡ true
+pub still_marked : (more marked : List ℕ) (v : ℕ) → is_marked marked v ≡ true → is_marked (more ++ marked) v ≡ true
 still_marked more marked v is = list_any-append (λ m. m == v) more marked ∙ or_right (is_marked more v) (is_marked marked v) is
 
 -- no literal is held true together with its negation

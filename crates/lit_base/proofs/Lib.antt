@@ -15,3 +15,12 @@ pub mod OriginalsFound
 pub mod RootConflict
 pub mod ProofEnds
 pub mod Flags
+pub mod Cuts
+pub mod TwoOfLevel
+pub mod OneOfLevel
+pub mod Asserting
+pub mod FixIsQuiet
+pub mod FreeVariables
+pub mod HeldClauses
+pub mod LessonHints
+pub mod TrailWithin

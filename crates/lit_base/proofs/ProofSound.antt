@@ -63,7 +63,7 @@ with_one_true model known l are is m held = elim (or_cases (same l m) (holds kno
 ]
 
 -- the clause of a hint that was found is true
-abbrev IsTrueHint : List Bool → Option (List Literal) → Type 0
+abbrev pub IsTrueHint : List Bool → Option (List Literal) → Type 0
 IsTrueHint model None = ⊤
 IsTrueHint model (Some lits) = is_clause_true model lits ≡ true
 

@@ -49,7 +49,7 @@ newest_by false p o is = cc
 pub newest_stands : (e : Entry) (older : List Entry) → Stands (e ∷ older) e.lit
 newest_stands e older = newest_by (e.lit.variable == e.lit.variable) e.lit.positive (sign_of older e.lit.variable) (eq-eqb e.lit.variable e.lit.variable refl)
 
-free_and_found : (o : Option Bool) (sign : Bool) → is_none o ≡ true → o ≡ Some sign → ⊥
+pub free_and_found : (o : Option Bool) (sign : Bool) → is_none o ≡ true → o ≡ Some sign → ⊥
 free_and_found None sign free found = cc
 free_and_found (Some s) sign free found = cc
 

@@ -3,13 +3,16 @@ pub mod Truth
 pub mod Cnf
 pub mod Distinct
 pub mod Trail
+pub mod Backjump
 pub mod Rounds
 pub mod Text
 pub mod Laws
 pub mod Walk
 pub mod Judgement
 pub mod Named
+pub mod Held
 pub mod Fits
+pub mod Quiet
 pub mod Analysis
 pub mod Refutation
 pub mod Examples

@@ -1,5 +1,5 @@
 -- A trail: the assigned literals, the newest entry first, each with its level and its reason.
-use Rattle.std.specs.Prelude.{ℕ, zero, suc, ◌==◌, Bool, true, false, not, ◌&&◌, List, [], ◌∷◌, Option, Some, None, is_none, if◌then◌else◌}
+use Rattle.std.specs.Prelude.{ℕ, zero, suc, ◌+◌, ◌==◌, Bool, true, false, not, ◌&&◌, List, [], ◌∷◌, Option, Some, None, is_none, if◌then◌else◌}
 use Rattle.std.specs.Bool.{beq}
 use Rattle.lit_base.specs.Literal.{Literal}
 use Rattle.lit_base.specs.declared.trail.Entry.{Entry}
@@ -47,6 +47,20 @@ is_free trail v = is_none (sign_of trail v)
 abbrev pub level_now : List Entry → ℕ
 level_now [] = 0
 level_now (e ∷ older) = e.level
+
+-- the level at which a variable stands on the trail, if it does
+abbrev pub level_of : List Entry → ℕ → Option ℕ
+level_of [] v = None
+level_of (e ∷ older) v = if e.lit.variable == v then Some e.level else level_of older v
+
+-- the trail with a decision, which begins a new level
+abbrev pub with_decision : Literal → List Entry → List Entry
+with_decision l trail = record { lit = l; level = level_now trail + 1; reason = None } ∷ trail
+
+-- the first variable that is free, of the n from `first` on
+abbrev pub first_free : ℕ → ℕ → List Entry → Option ℕ
+first_free zero first trail = None
+first_free (suc n) first trail = if is_free trail first then Some first else first_free n (suc first) trail
 
 -- whether each variable from 1 to n stands on the trail
 abbrev pub is_full : ℕ → List Entry → Bool

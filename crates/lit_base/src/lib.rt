@@ -19,6 +19,9 @@ pub use proof::{ClauseStatus, Judged, Line, LineStep, ProofFault};
 pub use proof_laws::{
     law_checked_proof_refutes, law_empty_lemma_decides, law_found_more_follows, law_small_proofs,
 };
+pub use quiet_laws::{
+    law_conflict_has_two_literals, law_fixed_point_is_quiet, law_jump_fits, law_lesson_is_asserting,
+};
 pub use text::Text;
 pub use trail::{Entry, Value};
 
@@ -34,6 +37,7 @@ mod model;
 mod name;
 mod proof;
 mod proof_laws;
+mod quiet_laws;
 #[cfg(test)]
 mod tests;
 mod text;

@@ -1,0 +1,60 @@
+-- Clauses that a core holds under their names, each with how often it was a hint since the last reduction.
+use Rattle.std.specs.Prelude.{ℕ, ◌+◌, ◌==◌, nat_lt, Bool, not, ◌&&◌, ◌||◌, if◌then◌else◌, List, [], ◌∷◌, length, map, filter}
+use Rattle.std.specs.List.{list_any}
+use Rattle.lit_base.specs.Literal.{Literal}
+use Rattle.lit_base.specs.Rounds.{NamedClause}
+use Rattle.lit_base.specs.Named.{same_name}
+use Rattle.lit_base.specs.declared.name.Name.{Name}
+
+-- a held clause; a list of them stands by rising names
+pub record HeldClause : Type 0 where
+  pub name : Name
+  pub lits : List Literal
+  pub uses : ℕ
+
+-- a clause under its name, without its uses
+abbrev pub clause_of : HeldClause → NamedClause
+clause_of c = record { name = c.name; lits = c.lits }
+
+-- the clauses as propagation and analysis see them
+abbrev pub clauses_of : List HeldClause → List NamedClause
+clauses_of held = map clause_of held
+
+-- a clause that has no uses yet
+abbrev pub unused : NamedClause → HeldClause
+unused c = record { name = c.name; lits = c.lits; uses = 0 }
+
+-- whether a name stands before another, as in a dictionary: by period, then by core, then by index
+abbrev pub is_before : Name → Name → Bool
+is_before a b =
+    nat_lt a.period b.period
+    || ((a.period == b.period) && (nat_lt a.core b.core || ((a.core == b.core) && nat_lt a.index b.index)))
+
+-- the clauses with one more, in front of the first that has a greater name
+abbrev pub with_clause : HeldClause → List HeldClause → List HeldClause
+with_clause c [] = c ∷ []
+with_clause c (d ∷ later) = if is_before c.name d.name then c ∷ d ∷ later else d ∷ with_clause c later
+
+-- originals are the clauses of period 0
+abbrev pub is_original : Name → Bool
+is_original name = name.period == 0
+
+-- whether the name is one of these
+abbrev pub is_among : List Name → Name → Bool
+is_among names name = list_any (λ n. same_name n name) names
+
+-- a clause whose name is one of the hints has one use more; originals count none
+abbrev pub with_use : List Name → HeldClause → HeldClause
+with_use hints c = if not (is_original c.name) && is_among hints c.name then record c { uses = c.uses + 1 } else c
+
+-- the clauses after a lemma was learnt from these hints
+abbrev pub with_uses : List Name → List HeldClause → List HeldClause
+with_uses hints held = map (with_use hints) held
+
+-- the clauses but those with these names
+abbrev pub without_names : List Name → List HeldClause → List HeldClause
+without_names names held = filter (λ c. not (is_among names c.name)) held
+
+-- the number of clauses that are no originals
+abbrev pub volume_of : List HeldClause → ℕ
+volume_of held = length (filter (λ c. not (is_original c.name)) held)

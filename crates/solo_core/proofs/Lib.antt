@@ -1,0 +1,9 @@
+pub mod Derived
+pub mod FirstState
+pub mod EndRules
+pub mod SoundSteps
+pub mod SoundClauses
+pub mod SoundLearnt
+pub mod SoundStretch
+pub mod StretchSound
+pub mod DerivedTrue

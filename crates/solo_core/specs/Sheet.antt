@@ -1,0 +1,32 @@
+-- What a core leaves of a period: its mail to the others, and its sheet for the log and the answer.
+use Rattle.std.specs.Prelude.{Bool, List, [], Option, Some, None}
+use Rattle.lit_base.specs.Trail.{model_of}
+use Rattle.lit_base.specs.Held.{volume_of}
+use Rattle.solo_core.specs.State.{CoreFrame, CoreState}
+use Rattle.solo_core.specs.Stretch.{Stretched}
+use Rattle.solo_core.specs.declared.sheet.End.{End}
+use Rattle.solo_core.specs.declared.sheet.End.TheVariants.{Quota, Sat, Unsat, Spent}
+use Rattle.solo_core.specs.declared.sheet.Mail.{Mail}
+use Rattle.solo_core.specs.declared.sheet.Sheet.{Sheet}
+
+-- the mail of a stretch; no clause is posted yet
+abbrev pub mail_of : CoreFrame → Stretched → Mail
+mail_of f s = record {
+  core = f.core;
+  period = s.state.period;
+  end = s.ended;
+  conflicts = s.state.period_conflicts;
+  volume = volume_of s.state.clauses;
+  posted = [];
+}
+
+-- the trail is the model of a stretch that ended with one
+abbrev pub model_at : CoreFrame → CoreState → End → Option (List Bool)
+model_at f k Sat = Some (model_of f.variables k.trail)
+model_at f k Unsat = None
+model_at f k Quota = None
+model_at f k Spent = None
+
+-- the sheet of a stretch: its mail, the lemmas of the period, and the model where it found one
+abbrev pub sheet_of : CoreFrame → Stretched → Sheet
+sheet_of f s = record { mail = mail_of f s; lemmas = s.state.lemmas; model = model_at f s.state s.ended }

@@ -1,0 +1,98 @@
+-- One turn of a core: propagation, and then a decision, or what its conflict teaches
+-- (DPLL with clause learning: Marques-Silva and Sakallah 1996).
+use Rattle.std.specs.Prelude.{ℕ, ◌+◌, ◌==◌, if◌then◌else◌, List, [], ◌∷◌, ◌++◌, length, Option, Some, None, option_map}
+use Rattle.lit_base.specs.Literal.{Literal}
+use Rattle.lit_base.specs.Trail.{level_now, with_decision, first_free, value_or_false}
+use Rattle.lit_base.specs.Backjump.{cut, saved_after, last_value}
+use Rattle.lit_base.specs.Rounds.{Propagated, propagate}
+use Rattle.lit_base.specs.Named.{lits_at}
+use Rattle.lit_base.specs.Held.{clauses_of, with_clause, with_uses}
+use Rattle.lit_base.specs.Analysis.{lesson_of}
+use Rattle.lit_base.specs.declared.name.Name.{Name}
+use Rattle.lit_base.specs.declared.lesson.Lesson.{Lesson}
+use Rattle.solo_core.specs.declared.lemma.Lemma.{Lemma}
+use Rattle.solo_core.specs.State.{CoreFrame, CoreState, lemma_name}
+
+-- what a turn comes to: a decision, a lesson above level 0, a refutation, or a model
+pub data TurnEnd : Type 0 where
+  Decided : TurnEnd
+  Learnt : TurnEnd
+  Refuted : TurnEnd
+  Modelled : TurnEnd
+
+-- the state after a turn, and what the turn came to
+pub record Turned : Type 0 where
+  pub state : CoreState
+  pub came_to : TurnEnd
+
+-- the clauses that a core holds, by their names
+abbrev pub look_of : CoreState → Name → Option (List Literal)
+look_of k = lits_at (clauses_of k.clauses)
+
+-- where propagation of the held clauses ends
+abbrev pub propagated : CoreFrame → CoreState → Propagated
+propagated f k = propagate f.variables (clauses_of k.clauses) k.trail
+
+-- the literal of a variable with the value that it last had, and negated where it never had one
+abbrev pub last_literal : CoreState → ℕ → Literal
+last_literal k v = record { variable = v; positive = value_or_false (last_value k.trail k.saved v) }
+
+-- the literal to decide: that of the free variable of lowest number, if one is free
+abbrev pub picked : CoreFrame → CoreState → Option Literal
+picked f k = option_map (last_literal k) (first_free f.variables 1 k.trail)
+
+-- the state after the decision of a literal
+abbrev pub decided : Literal → CoreState → CoreState
+decided l k = record k { trail = with_decision l k.trail }
+
+-- the state after a jump to a level
+abbrev pub jumped : ℕ → CoreState → CoreState
+jumped level k = record k { trail = cut level k.trail; saved = saved_after level k.trail k.saved }
+
+-- the lemma of a lesson under the next name of the period
+abbrev pub lemma_of : CoreFrame → CoreState → Lesson → Lemma
+lemma_of f k lesson =
+    record { name = lemma_name k.period f.core (length k.lemmas); lits = lesson.lits; hints = lesson.hints }
+
+-- a conflict is counted, and its lemma is the next of the period
+abbrev pub with_lemma : Lemma → CoreState → CoreState
+with_lemma lemma k = record k {
+  conflicts = k.conflicts + 1;
+  period_conflicts = k.period_conflicts + 1;
+  lemmas = k.lemmas ++ lemma ∷ [];
+}
+
+-- the lemma is held, without uses, and each of its hints that is a held lemma has one use more
+abbrev pub with_held : Lemma → CoreState → CoreState
+with_held lemma k = record k {
+  clauses = with_uses lemma.hints (with_clause (record { name = lemma.name; lits = lemma.lits; uses = 0 }) k.clauses);
+}
+
+-- after a conflict above level 0: the lemma is held, and the core jumps back
+abbrev pub learnt : CoreFrame → Lesson → CoreState → CoreState
+learnt f lesson k = let lemma = lemma_of f k lesson in jumped lesson.back (with_held lemma (with_lemma lemma k))
+
+-- after a conflict at level 0: the lemma, which is empty, is not held
+abbrev pub refuted : CoreFrame → Lesson → CoreState → CoreState
+refuted f lesson k = with_lemma (lemma_of f k lesson) k
+
+-- a lesson refutes at level 0, and above it is learnt
+abbrev pub taught : CoreFrame → CoreState → Lesson → Turned
+taught f k lesson =
+    if level_now k.trail == 0
+    then record { state = refuted f lesson k; came_to = Refuted }
+    else record { state = learnt f lesson k; came_to = Learnt }
+
+-- a literal that was picked is decided; where no variable is free the trail is a model
+abbrev pub chosen : CoreState → Option Literal → Turned
+chosen k None = record { state = k; came_to = Modelled }
+chosen k (Some l) = record { state = decided l k; came_to = Decided }
+
+-- what a turn comes to, from the state after propagation and the conflict that it met, if it met one
+abbrev pub turn_by : CoreFrame → CoreState → Option Name → Turned
+turn_by f k None = chosen k (picked f k)
+turn_by f k (Some conflict) = taught f k (lesson_of (look_of k) k.trail conflict)
+
+-- one turn
+abbrev pub turn : CoreFrame → CoreState → Turned
+turn f k = let p = propagated f k in turn_by f (record k { trail = p.trail }) p.conflict
