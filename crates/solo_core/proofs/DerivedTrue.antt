@@ -1,12 +1,12 @@
 -- A model of the known clauses makes each derived lemma true.
-use Rattle.std.proofs.Common.{◌≡◌, ℕ, ◌==◌, ◌+◌, Bool, true, false, cond, List, [], ◌∷◌, ◌++◌, refl, ap, sym, ◌∙◌, subst, inl, inr}
+use Rattle.std.proofs.Common.{◌≡◌, ℕ, ◌+◌, Bool, true, false, List, [], ◌∷◌, ◌++◌, refl, ap, sym, ◌∙◌, subst}
 use Rattle.std.specs.Prelude.{Option, Some, None, map, IsTrue}
 use Rattle.std.specs.List.{list_all, AllByRecursion}
 use Rattle.std.proofs.lemmas.Bool.{and_parts}
 use Rattle.lit_base.specs.Literal.{Literal}
 use Rattle.lit_base.specs.Cnf.{Cnf}
-use Rattle.lit_base.specs.Truth.{is_clause_true, Satisfies}
-use Rattle.lit_base.specs.Rounds.{NamedClause, original, named_from, originals}
+use Rattle.lit_base.specs.Truth.{is_clause_true}
+use Rattle.lit_base.specs.Rounds.{NamedClause, named_from, originals}
 use Rattle.lit_base.specs.Named.{lits_at}
 use Rattle.lit_base.specs.Judgement.{HasNoModel}
 use Rattle.lit_base.specs.declared.name.Name.{Name}
@@ -17,7 +17,7 @@ use Rattle.solo_core.specs.declared.lemma.Lemma.{Lemma}
 use Rattle.solo_core.specs.declared.sheet.End.TheVariants.{Unsat}
 use Rattle.solo_core.specs.State.{CoreFrame, CoreState, lemma_clause}
 use Rattle.solo_core.specs.Stretch.{stretch}
-use Rattle.solo_core.specs.Soundness.{IsDerived, AreDerived, AreTrueIn, EndsEmpty, IsSound}
+use Rattle.solo_core.specs.Soundness.{AreDerived, AreTrueIn, IsSound}
 
 hint_true : (model : List Bool) (clauses : List NamedClause) (hint : Name) → AreTrueIn model clauses → (o : Option (List Literal)) → lits_at clauses hint ≡ o → IsTrueHint model o
 hint_true model clauses hint all None is = tt

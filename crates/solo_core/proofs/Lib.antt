@@ -7,3 +7,4 @@ pub mod SoundLearnt
 pub mod SoundStretch
 pub mod StretchSound
 pub mod DerivedTrue
+pub mod LogChecks

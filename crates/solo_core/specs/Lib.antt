@@ -5,4 +5,5 @@ pub mod Sheet
 pub mod Soundness
 pub mod Changes
 pub mod Ends
+pub mod Log
 pub mod Examples

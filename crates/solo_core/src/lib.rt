@@ -17,8 +17,9 @@ pub use examples::{
 pub use lemma::Lemma;
 pub use sheet::{End, Mail, Posted, Settings, Sheet};
 pub use soundness::{
-    law_conflict_asserts, law_derived_lemmas_are_true, law_first_state_is_sound,
-    law_model_satisfies_formula, law_stretch_is_sound, law_turn_keeps_soundness,
+    law_conflict_asserts, law_derived_lemmas_are_true, law_derived_lemmas_check,
+    law_first_state_is_sound, law_model_satisfies_formula, law_stretch_is_sound,
+    law_turn_keeps_soundness,
 };
 
 mod changes;

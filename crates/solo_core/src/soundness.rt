@@ -1,5 +1,5 @@
 //! What makes a core sound: laws of the definitions, as functions that do nothing and whose contracts state them.
-ghost use Rattle.std.specs.Prelude.{◌≡◌, ◌≢◌, ◌<◌, ℕ, Bool, IsTrue, List, Option, Some};
+ghost use Rattle.std.specs.Prelude.{◌≡◌, ◌≢◌, ◌<◌, ℕ, ◌+◌, Bool, IsTrue, IsOk, List, length, Option, Some};
 ghost use Rattle.std.specs.List.{AllByRecursion};
 ghost use Rattle.lit_base.specs.Literal.{Literal};
 ghost use Rattle.lit_base.specs.Cnf.{Cnf, IsFormula};
@@ -7,13 +7,14 @@ ghost use Rattle.lit_base.specs.Truth.{is_clause_true, Satisfies};
 ghost use Rattle.lit_base.specs.Trail.{level_now, model_of};
 ghost use Rattle.lit_base.specs.Rounds.{NamedClause, originals};
 ghost use Rattle.lit_base.specs.Analysis.{lesson_of};
-ghost use Rattle.lit_base.specs.Judgement.{HasNoModel};
+ghost use Rattle.lit_base.specs.Judgement.{judge, Checks, HasNoModel};
 ghost use Rattle.lit_base.specs.Quiet.{HasTwoOfLevel, IsAsserting};
 ghost use Rattle.lit_base.specs.declared.name.Name.{Name};
 ghost use Rattle.solo_core.specs.declared.lemma.Lemma.{Lemma};
 ghost use Rattle.solo_core.specs.State.{CoreFrame, CoreState, first_state};
 ghost use Rattle.solo_core.specs.Turn.{look_of, propagated, turn, Refuted};
 ghost use Rattle.solo_core.specs.Stretch.{stretch};
+ghost use Rattle.solo_core.specs.Log.{lines_of, AreNumbered, NumbersOriginals};
 ghost use Rattle.solo_core.specs.Soundness.{IsSound, AreDerived, AreNamed, AreTrueIn, EndsEmpty, IsModelFound, HoldsFormula};
 ghost use Rattle.solo_core.specs.declared.sheet.End.TheVariants.{Sat, Unsat};
 
@@ -77,4 +78,17 @@ pub fn law_derived_lemmas_are_true()
         AllByRecursion (λ lemma. IsTrue (is_clause_true model lemma.lits)) lemmas }
     ensures unsat { (cnf : Cnf) (f : CoreFrame) (quota : ℕ) (k : CoreState) →
         IsSound (originals cnf) f k → (stretch f quota k).ended ≡ Unsat → HasNoModel cnf }
+{}
+
+/// Lemmas that are derived from the clauses of a formula, one after the other, are a proof whose
+/// lines are in order, and where the last of them, and no earlier one, is empty, the proof checks.
+pub fn law_derived_lemmas_check()
+    ensures in_order { (cnf : Cnf) (number : Name → ℕ) (lemmas : List Lemma) →
+        NumbersOriginals number → AreNumbered number (length cnf.clauses + 1) lemmas →
+        AreDerived (originals cnf) lemmas →
+        IsOk (judge cnf (lines_of number 1 (length cnf.clauses + 1) lemmas)) }
+    ensures checks { (cnf : Cnf) (number : Name → ℕ) (lemmas : List Lemma) →
+        NumbersOriginals number → AreNumbered number (length cnf.clauses + 1) lemmas →
+        AreDerived (originals cnf) lemmas → EndsEmpty lemmas →
+        Checks cnf (lines_of number 1 (length cnf.clauses + 1) lemmas) }
 {}

@@ -2,10 +2,11 @@ use crate::{
     End, Lemma, Mail, Posted, Settings, Sheet, law_any_clause_may_be_added,
     law_any_clause_may_be_dropped, law_any_free_variable_may_be_decided, law_any_jump_may_be_made,
     law_conflict_asserts, law_derived_from_more, law_derived_lemmas_are_true,
-    law_first_state_is_sound, law_jump_to_level_one, law_last_value_is_kept,
-    law_model_satisfies_formula, law_root_reason_is_a_hint, law_spent_core_does_nothing,
-    law_square_is_given_up_at_the_limit, law_square_is_refuted, law_stretch_ends_by_rule,
-    law_stretch_is_sound, law_turn_keeps_soundness, law_turns_suffice, law_uses_may_change,
+    law_derived_lemmas_check, law_first_state_is_sound, law_jump_to_level_one,
+    law_last_value_is_kept, law_model_satisfies_formula, law_root_reason_is_a_hint,
+    law_spent_core_does_nothing, law_square_is_given_up_at_the_limit, law_square_is_refuted,
+    law_stretch_ends_by_rule, law_stretch_is_sound, law_turn_keeps_soundness, law_turns_suffice,
+    law_uses_may_change,
 };
 use lit_base::{List, Lit, Model, Name, NoMemory};
 use std::alloc::Global;
@@ -106,6 +107,7 @@ fn the_laws_do_nothing(rt: HostRuntime) {
     law_stretch_is_sound();
     law_model_satisfies_formula();
     law_derived_lemmas_are_true();
+    law_derived_lemmas_check();
     law_any_free_variable_may_be_decided();
     law_any_jump_may_be_made();
     law_any_clause_may_be_dropped();
