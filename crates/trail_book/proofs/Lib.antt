@@ -1,0 +1,5 @@
+pub mod Counts
+pub mod Holding
+pub mod Steps
+pub mod Looks
+pub mod Places

@@ -1,0 +1,276 @@
+ghost use Rattle.std.specs.Prelude.{◌≡◌, ℕ, ◌+◌, ◌-◌, ◌*◌, ◌≤◌, ◌<◌, ◌==◌, ◌↔◌, true, Bool, Option, Some, None, [], ◌∷◌, length, reverse, replicate, IfOk, IfSome, slice_get, slice_index_or, vec_len};
+ghost use Rattle.lit_base.specs.Literal.{Literal, IsWithin};
+ghost use Rattle.lit_base.specs.declared.trail.Value.TheVariants.{Free};
+ghost use Rattle.lit_base.specs.Trail.{is_free, is_full, level_now, trail_value};
+ghost use Rattle.lit_base.specs.Backjump.{last_value};
+ghost use Rattle.lit_base.specs.Fits.{IsNextLevel};
+ghost use Rattle.trail_book.specs.TrailState.{first_trail, decided, implied, jumped, without_newest, place_of, IsTrail};
+ghost use Rattle.trail_book.specs.Arrays.{value_at, value_with, place_at, sign_by};
+
+use lit_base::{Entry, Lit, Name, NoMemory, Value};
+use std::alloc::Global;
+use std::marker::Model;
+
+/// The literals that are assigned, each with its level and its reason, and what each variable last was.
+///
+/// Memory is taken by `with_room` alone. After it each call takes a constant time, but `jump` a step for each entry
+/// that leaves.
+///
+/// `entries` has the oldest entry first, with room for one of each variable; `values` is by the index of a literal,
+/// `places` by variable and one more than the place, 0 where the variable is free, and `saved` by variable from 1 on.
+#[derive(Debug, Drop)]
+pub struct Trail {
+    entries: Vec<Entry>,
+    values: Vec<Value>,
+    places: Vec<u32>,
+    saved: Vec<Option<bool>>,
+}
+
+impl Model for Trail {
+    ghost use Rattle.std.specs.Prelude.{reverse, vec_capacity};
+    ghost use Rattle.trail_book.specs.TrailState.{TrailState};
+    ghost use Rattle.trail_book.specs.Arrays.{AreArraysOf};
+
+    ghost Value = { TrailState };
+
+    ghost view = { λ t. record { entries = reverse t.entries.items; saved = t.saved.items } };
+
+    ghost invariant = { λ t.
+        AreArraysOf (record { entries = reverse t.entries.items; saved = t.saved.items })
+        (vec_capacity t.entries) t.values.items t.places.items };
+}
+
+impl Trail {
+    /// The empty trail of so many variables, with room for an entry of each; `NoMemory` where there is none.
+    pub fn with_room(alloc: Global, variables: u32) -> Result<Trail, NoMemory>
+        requires { variables ≤ 1000000 }
+        ensures { IfOk result (λ trail. trail ≡ first_trail variables) }
+    {
+        let count = variables as usize;
+        Ok(Trail {
+            entries: Vec::with_capacity(alloc, count)?,
+            values: free_values(alloc, 2 * (count + 1))?,
+            places: no_places(alloc, count + 1)?,
+            saved: none_saved(alloc, count)?,
+        })
+    }
+
+    /// The number of variables, at most 1,000,000.
+    pub fn variables(&self) -> u32
+        ensures value { result ≡ length self.now.saved }
+        ensures trail { IsTrail self.now }
+    {
+        self.saved.len() as u32
+    }
+
+    /// Assigns a free literal as a decision, at a new level.
+    pub fn decide(&mut self, lit: Lit)
+        requires free { is_free self.old.entries lit.variable ≡ true }
+        requires within { lit.variable ≤ length self.old.saved }
+        ensures { self.new ≡ decided lit self.old }
+    {
+        let level = self.level() + 1;
+        self.push(Entry {
+            lit,
+            level,
+            reason: None,
+        });
+    }
+
+    /// Assigns a free literal that a clause implies, at the present level.
+    pub fn imply(&mut self, lit: Lit, reason: Name)
+        requires free { is_free self.old.entries lit.variable ≡ true }
+        requires within { lit.variable ≤ length self.old.saved }
+        ensures { self.new ≡ implied lit reason self.old }
+    {
+        let level = self.level();
+        self.push(Entry {
+            lit,
+            level,
+            reason: Some(reason),
+        });
+    }
+
+    /// Lets the entries above a level leave, the newest first, and saves their values.
+    pub fn jump(&mut self, level: u32)
+        requires { level ≤ level_now self.old.entries }
+        ensures { self.new ≡ jumped level self.old }
+    {
+        for _ in 0..self.len() {
+            if self.level() <= level {
+                return;
+            }
+            self.pop();
+        }
+    }
+
+    /// The value of a literal; one past the variables is free. `decide` and `imply` ask for a free one.
+    pub fn value(&self, lit: Lit) -> Value
+        ensures value { result ≡ trail_value self.now.entries lit }
+        ensures free { (result ≡ Free) ↔ (is_free self.now.entries lit.variable ≡ true) }
+    {
+        read_value(&self.values, lit)
+    }
+
+    /// The level of the newest entry, and 0 where there is none; at most 1,000,000.
+    pub fn level(&self) -> u32
+        ensures value { result ≡ level_now self.now.entries }
+        ensures few { result ≤ 1000000 }
+        ensures trail { IsTrail self.now }
+    {
+        level_now(&self.entries)
+    }
+
+    /// The number of entries, at most 1,000,000.
+    pub fn len(&self) -> usize
+        ensures value { result ≡ length self.now.entries }
+        ensures few { result ≤ 1000000 }
+        ensures trail { IsTrail self.now }
+    {
+        self.entries.len()
+    }
+
+    /// Whether each variable has a value.
+    pub fn full(&self) -> bool
+        ensures { result ≡ is_full (length self.now.saved) self.now.entries }
+    {
+        self.entries.len() == self.saved.len()
+    }
+
+    /// The place of a variable's entry, counted from the oldest; None where the variable is free.
+    pub fn place(&self, var: u32) -> Option<usize>
+        ensures value { result ≡ place_of self.now.entries var }
+        ensures within { IfSome result (λ place. place < length self.now.entries) }
+    {
+        read_place(&self.places, var)
+    }
+
+    /// The entry at a place, counted from 0 and from the oldest.
+    pub fn entry(&self, place: usize) -> Entry
+        requires { place < length self.now.entries }
+        ensures value { slice_get (reverse self.now.entries) place ≡ Some result }
+        ensures within { IsWithin (length self.now.saved) result.lit }
+        ensures level { result.level ≤ length self.now.entries }
+    {
+        self.entries[place]
+    }
+
+    /// The entries, the oldest first.
+    pub fn entries(&self) -> &[Entry]
+        ensures value { reverse result.now ≡ self.now.entries }
+        ensures trail { IsTrail self.now }
+    {
+        self.entries.as_slice()
+    }
+
+    /// What a variable, from 1 on, is, or else was when it last left the trail; None where it never had a value.
+    pub fn last(&self, var: u32) -> Option<bool>
+        ensures { result ≡ last_value self.now.entries self.now.saved var }
+    {
+        match read_sign(&self.values, var) {
+            Some(sign) => Some(sign),
+            None => read_saved(&self.saved, var),
+        }
+    }
+
+    /// Adds an entry of a free variable.
+    fn push(&mut self, entry: Entry)
+        requires free { is_free self.old.entries entry.lit.variable ≡ true }
+        requires within { entry.lit.variable ≤ length self.old.saved }
+        requires level { IsNextLevel (level_now self.old.entries) entry.level entry.reason }
+        ensures { self.new ≡ record self.old { entries = entry ∷ self.old.entries } }
+    {
+        let lit = entry.lit;
+        write_values(&mut self.values, lit, Value::True, Value::False);
+        self.places[lit.var() as usize] = self.entries.len() as u32 + 1;
+        self.entries.push_reserved(entry);
+    }
+
+    /// Lets the newest entry leave, if there is one, and saves its value.
+    fn pop(&mut self)
+        ensures { self.new ≡ without_newest self.old.entries self.old.saved }
+    {
+        let Some(entry) = self.entries.pop() else {
+            return;
+        };
+        let lit = entry.lit;
+        let var = lit.var() as usize;
+        write_values(&mut self.values, lit, Value::Free, Value::Free);
+        self.places[var] = 0;
+        self.saved[var - 1] = Some(lit.is_positive());
+    }
+}
+
+/// So many values, each Free.
+fn free_values(alloc: Global, count: usize) -> Result<Vec<Value>, NoMemory>
+    ensures { IfOk result (λ values. values.items ≡ replicate count Free) }
+{
+    Ok(vec![in alloc; Value::Free; count]?)
+}
+
+/// So many places, none of them a variable's.
+fn no_places(alloc: Global, count: usize) -> Result<Vec<u32>, NoMemory>
+    ensures { IfOk result (λ places. places.items ≡ replicate count 0) }
+{
+    Ok(vec![in alloc; 0; count]?)
+}
+
+/// So many saved values, none of them there.
+fn none_saved(alloc: Global, count: usize) -> Result<Vec<Option<bool>>, NoMemory>
+    ensures { IfOk result (λ saved. saved.items ≡ replicate count None) }
+{
+    Ok(vec![in alloc; None; count]?)
+}
+
+/// Gives a literal and its negation their values.
+fn write_values(values: &mut Vec<Value>, lit: Lit, own: Value, other: Value)
+    requires { 2 * lit.variable + 1 < vec_len values.old }
+    ensures len { vec_len values.new ≡ vec_len values.old }
+    ensures written { (l : Literal) → value_at values.new.items l ≡ value_with lit own other (value_at values.old.items l) l }
+{
+    values[lit.index()] = own;
+    values[lit.negated().index()] = other;
+}
+
+/// The value of a literal, and Free past the values.
+fn read_value(values: &[Value], lit: Lit) -> Value
+    ensures { result ≡ value_at values.now lit }
+{
+    values.get(lit.index()).copied().unwrap_or(Value::Free)
+}
+
+/// The sign of a variable, by the value of its positive literal; None past the values.
+fn read_sign(values: &[Value], var: u32) -> Option<bool>
+    ensures { result ≡ sign_by (slice_index_or values.now (2 * var) Free) }
+{
+    match values.get(2 * var as usize).copied().unwrap_or(Value::Free) {
+        Value::True => Some(true),
+        Value::False => Some(false),
+        Value::Free => None,
+    }
+}
+
+/// The place of a variable, and None past the places.
+fn read_place(places: &[u32], var: u32) -> Option<usize>
+    ensures { result ≡ place_at places.now var }
+{
+    match places.get(var as usize).copied().unwrap_or(0) {
+        0 => None,
+        place => Some(place as usize - 1),
+    }
+}
+
+/// The saved value of a variable, and None past the saved values.
+fn read_saved(saved: &[Option<bool>], var: u32) -> Option<bool>
+    ensures { result ≡ slice_index_or saved.now (var - 1) None }
+{
+    let place = (var as usize).saturating_sub(1);
+    saved.get(place).copied().flatten()
+}
+
+/// The level of the newest entry, which is the last one.
+fn level_now(entries: &[Entry]) -> u32
+    ensures { result ≡ level_now (reverse entries.now) }
+{
+    entries.last().map_or(0, |entry| entry.level)
+}
