@@ -24,3 +24,4 @@ pub mod FreeVariables
 pub mod HeldClauses
 pub mod LessonHints
 pub mod TrailWithin
+pub mod HintsDistinct

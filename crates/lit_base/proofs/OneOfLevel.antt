@@ -15,7 +15,7 @@ use Rattle.lit_base.proofs.Standing.{Stands, free_and_found, newest_stands, newe
 use Rattle.lit_base.proofs.LessonSound.{marked_with, still_marked}
 
 -- what follows for each element from what holds of each
-each_when : {X : Type 0} (P Q : X → Type 0) → ((x : X) → P x → Q x) → (xs : List X) → AllByRecursion P xs → AllByRecursion Q xs
+pub each_when : {X : Type 0} (P Q : X → Type 0) → ((x : X) → P x → Q x) → (xs : List X) → AllByRecursion P xs → AllByRecursion Q xs
 each_when P Q step [] all = tt
 each_when P Q step (x ∷ xs) all = (step x all.0, each_when P Q step xs all.1)
 

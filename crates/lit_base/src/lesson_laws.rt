@@ -1,11 +1,12 @@
 ghost use Rattle.std.specs.Prelude.{◌≡◌, ℕ, List, [], ◌∷◌, Option, Some};
+ghost use Rattle.std.specs.List.{IsDistinct};
 ghost use Rattle.lit_base.specs.Literal.{Literal};
 ghost use Rattle.lit_base.specs.Cnf.{Cnf};
 ghost use Rattle.lit_base.specs.declared.trail.Entry.{Entry};
 ghost use Rattle.lit_base.specs.declared.name.Name.{Name};
 ghost use Rattle.lit_base.specs.Trail.{level_now};
 ghost use Rattle.lit_base.specs.Rounds.{NamedClause, original, originals, propagate};
-ghost use Rattle.lit_base.specs.Named.{lits_at};
+ghost use Rattle.lit_base.specs.Named.{same_name, lits_at};
 ghost use Rattle.lit_base.specs.Walk.{FollowsByHints};
 ghost use Rattle.lit_base.specs.Fits.{HasDistinctVariables, FitsClauses, IsLeveled, IsConflict, FindsAll, IsFitting, PropagatesFitting};
 ghost use Rattle.lit_base.specs.Analysis.{lesson_of};
@@ -18,6 +19,13 @@ pub fn law_lesson_follows()
     ensures { (look : Name → Option (List Literal)) (trail : List Entry) (conflict : Name) →
         HasDistinctVariables trail → FitsClauses look trail → IsConflict look trail conflict →
         let lesson = lesson_of look trail conflict in FollowsByHints look lesson.lits lesson.hints }
+{}
+
+/// The hints of a lesson are distinct: no clause is the reason of two entries, or a reason and the conflict.
+pub fn law_hints_are_distinct()
+    ensures { (look : Name → Option (List Literal)) (trail : List Entry) (conflict : Name) →
+        IsFitting look trail → IsConflict look trail conflict →
+        IsDistinct same_name (lesson_of look trail conflict).hints }
 {}
 
 /// At level 0 the lemma that a conflict teaches is empty.

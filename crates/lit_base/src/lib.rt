@@ -7,8 +7,8 @@ pub use formula::Formula;
 pub use laws::{law_full_trail_satisfies, law_model_has_each_value, law_rounds_suffice};
 pub use lesson::Lesson;
 pub use lesson_laws::{
-    law_conflict_refutes, law_lesson_follows, law_originals_are_found, law_propagation_fits,
-    law_root_lesson_is_empty, law_small_lesson,
+    law_conflict_refutes, law_hints_are_distinct, law_lesson_follows, law_originals_are_found,
+    law_propagation_fits, law_root_lesson_is_empty, law_small_lesson,
 };
 pub use list::List;
 pub use lit::Lit;

@@ -99,8 +99,7 @@ fn settings_and_ends_are_compared_by_all_that_they_hold(rt: HostRuntime) {
 }
 
 #[test]
-fn the_laws_do_nothing(rt: HostRuntime) {
-    let _ = rt;
+fn laws_can_be_called(_rt: HostRuntime) {
     law_first_state_is_sound();
     law_turn_keeps_soundness();
     law_conflict_asserts();
