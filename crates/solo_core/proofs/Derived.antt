@@ -39,7 +39,7 @@ some_more : (o p : Option (List Literal)) → ((lits : List Literal) → o ≡ S
 some_more None p more some = cc
 some_more (Some lits) p more some = subst (λ q. IsSome q) (sym (more lits refl)) refl
 
-hints_more : (look found : Name → Option (List Literal)) (hints : List Name) → FindsMore look found (λ name. name) → AllByRecursion (λ hint. IsSome (look hint)) hints →
+pub hints_more : (look found : Name → Option (List Literal)) (hints : List Name) → FindsMore look found (λ name. name) → AllByRecursion (λ hint. IsSome (look hint)) hints →
     AllByRecursion (λ hint. IsSome (found hint)) hints
 hints_more look found [] more all = tt
 hints_more look found (hint ∷ hints) more all = (some_more (look hint) (found hint) (more hint) all.0, hints_more look found hints more all.1)

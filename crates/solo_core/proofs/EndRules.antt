@@ -11,7 +11,9 @@ use Rattle.lit_base.specs.declared.name.Name.{Name}
 use Rattle.lit_base.specs.declared.lesson.Lesson.{Lesson}
 use Rattle.lit_base.proofs.FixedPoint.{free_count, free_count-le}
 use Rattle.solo_core.specs.State.{CoreFrame, CoreState}
-use Rattle.solo_core.specs.Turn.{TurnEnd, Decided, Learnt, Refuted, Modelled, Turned, look_of, propagated, last_literal, lemma_of, learnt, refuted, taught, chosen, turn_by, turn}
+use Rattle.solo_core.specs.Turn.{Turned, look_of, propagated, last_literal, lemma_of, learnt, refuted, taught, chosen, turn_by, turn}
+use Rattle.solo_core.specs.declared.turn.TurnEnd.{TurnEnd}
+use Rattle.solo_core.specs.declared.turn.TurnEnd.TheVariants.{Decided, Learnt, Refuted, Modelled}
 use Rattle.solo_core.specs.Stretch.{Stretched, after_turn, search, ended_at_root, after_search, searches, stretch}
 use Rattle.solo_core.specs.Ends.{EndsByRule, CountsConflicts}
 use Rattle.solo_core.specs.declared.sheet.End.{End}

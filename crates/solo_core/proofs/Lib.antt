@@ -8,3 +8,12 @@ pub mod SoundStretch
 pub mod StretchSound
 pub mod DerivedTrue
 pub mod LogChecks
+pub mod Values
+pub mod CountedUses
+pub mod Attaching
+pub mod FirstClauses
+pub mod FirstFree
+pub mod Joined
+pub mod Learnt
+pub mod Searched
+pub mod Stretching

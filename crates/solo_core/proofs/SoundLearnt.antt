@@ -51,7 +51,7 @@ pub record IsNext (base : List NamedClause) (f : CoreFrame) (k : CoreState) (lem
   pub quiet : (level : ℕ) → level < level_now k.trail → IsQuiet (cut level k.trail) lemma.lits
 
 -- the lemma as a clause that is held, without uses
-abbrev held_lemma : Lemma → HeldClause
+abbrev pub held_lemma : Lemma → HeldClause
 held_lemma lemma = record { name = lemma.name; lits = lemma.lits; uses = 0 }
 
 -- the next name isn't found

@@ -25,7 +25,9 @@ use Rattle.solo_core.proofs.Derived.{derived_by_more, derived_one_more, named_on
 use Rattle.solo_core.proofs.SoundSteps.{propagated_sound, decided_sound, jumped_sound}
 use Rattle.solo_core.proofs.SoundLearnt.{lesson_derived, learnt_sound, learnt_holds, conflict_two, conflict_asserting}
 use Rattle.solo_core.specs.State.{CoreFrame, CoreState, lemma_name, lemma_clauses}
-use Rattle.solo_core.specs.Turn.{TurnEnd, Decided, Learnt, Refuted, Modelled, Turned, look_of, propagated, last_literal, lemma_of, learnt, refuted, taught, chosen, turn_by, turn}
+use Rattle.solo_core.specs.Turn.{Turned, look_of, propagated, last_literal, lemma_of, learnt, refuted, taught, chosen, turn_by, turn}
+use Rattle.solo_core.specs.declared.turn.TurnEnd.{TurnEnd}
+use Rattle.solo_core.specs.declared.turn.TurnEnd.TheVariants.{Decided, Learnt, Refuted, Modelled}
 use Rattle.solo_core.specs.Stretch.{Stretched, after_turn, search, ended_at_root, after_search, searches, stretch}
 use Rattle.solo_core.specs.Changes.{after_propagation}
 use Rattle.solo_core.specs.Soundness.{AreDerived, AreNamed, IsSound, EndsEmpty, IsModelFound, HoldsFormula}
@@ -159,7 +161,8 @@ after_turn_kept base f before more k Learnt sound formulas rest = record { sound
 after_turn_kept base f before more k Modelled sound formulas rest = record { sound = sound; formulas = formulas }
 after_turn_kept base f before more k Refuted sound formulas rest = record { sound = sound; formulas = formulas }
 
-search_kept : (most : ℕ) (base : List NamedClause) (f : CoreFrame) (k : CoreState) → IsSound base f k → IsTurnKept base f k (search most f k)
+-- what a search keeps and leaves
+pub search_kept : (most : ℕ) (base : List NamedClause) (f : CoreFrame) (k : CoreState) → IsSound base f k → IsTurnKept base f k (search most f k)
 search_kept zero base f k sound = record { sound = sound; formulas = λ cnf holds. holds }
 search_kept (suc most) base f k sound =
     let one = turn_kept base f k sound in

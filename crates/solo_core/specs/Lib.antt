@@ -6,4 +6,7 @@ pub mod Soundness
 pub mod Changes
 pub mod Ends
 pub mod Log
+pub mod SearchState
+pub mod SearchSteps
+pub mod CoreValue
 pub mod Examples

@@ -1,5 +1,5 @@
 -- What a core leaves of a period: its mail to the others, and its sheet for the log and the answer.
-use Rattle.std.specs.Prelude.{Bool, List, [], Option, Some, None}
+use Rattle.std.specs.Prelude.{Bool, List, [], Option, Some, None, option_map}
 use Rattle.lit_base.specs.Trail.{model_of}
 use Rattle.lit_base.specs.Held.{volume_of}
 use Rattle.solo_core.specs.State.{CoreFrame, CoreState}
@@ -30,3 +30,7 @@ model_at f k Spent = None
 -- the sheet of a stretch: its mail, the lemmas of the period, and the model where it found one
 abbrev pub sheet_of : CoreFrame → Stretched → Sheet
 sheet_of f s = record { mail = mail_of f s; lemmas = s.state.lemmas; model = model_at f s.state s.ended }
+
+-- the sheet of a state whose stretch ended so, if it was made
+abbrev pub sheet_at : CoreFrame → CoreState → Option End → Option Sheet
+sheet_at f k ended = option_map (λ end. sheet_of f (record { state = k; ended = end })) ended

@@ -1,7 +1,9 @@
 -- A stretch of a core: turns up to an answer, the quota of the period or the limit of the run.
 use Rattle.std.specs.Prelude.{ℕ, zero, suc, ◌+◌, ◌==◌, if◌then◌else◌}
 use Rattle.solo_core.specs.State.{CoreFrame, CoreState}
-use Rattle.solo_core.specs.Turn.{TurnEnd, Decided, Learnt, Refuted, Modelled, Turned, turn, jumped}
+use Rattle.solo_core.specs.Turn.{Turned, turn, jumped}
+use Rattle.solo_core.specs.declared.turn.TurnEnd.{TurnEnd}
+use Rattle.solo_core.specs.declared.turn.TurnEnd.TheVariants.{Decided, Learnt, Refuted, Modelled}
 use Rattle.solo_core.specs.declared.sheet.End.{End}
 use Rattle.solo_core.specs.declared.sheet.End.TheVariants.{Quota, Sat, Unsat, Spent}
 

@@ -11,14 +11,9 @@ use Rattle.lit_base.specs.Analysis.{lesson_of}
 use Rattle.lit_base.specs.declared.name.Name.{Name}
 use Rattle.lit_base.specs.declared.lesson.Lesson.{Lesson}
 use Rattle.solo_core.specs.declared.lemma.Lemma.{Lemma}
+use Rattle.solo_core.specs.declared.turn.TurnEnd.{TurnEnd}
+use Rattle.solo_core.specs.declared.turn.TurnEnd.TheVariants.{Decided, Learnt, Refuted, Modelled}
 use Rattle.solo_core.specs.State.{CoreFrame, CoreState, lemma_name}
-
--- what a turn comes to: a decision, a lesson above level 0, a refutation, or a model
-pub data TurnEnd : Type 0 where
-  Decided : TurnEnd
-  Learnt : TurnEnd
-  Refuted : TurnEnd
-  Modelled : TurnEnd
 
 -- the state after a turn, and what the turn came to
 pub record Turned : Type 0 where

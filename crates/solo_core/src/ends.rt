@@ -3,7 +3,7 @@ ghost use Rattle.std.specs.Prelude.{◌≡◌, ◌≢◌, ◌<◌, ◌≤◌, �
 ghost use Rattle.lit_base.specs.Literal.{IsWithin};
 ghost use Rattle.lit_base.specs.Held.{clauses_of};
 ghost use Rattle.solo_core.specs.State.{CoreFrame, CoreState};
-ghost use Rattle.solo_core.specs.Turn.{Decided};
+ghost use Rattle.solo_core.specs.declared.turn.TurnEnd.TheVariants.{Decided};
 ghost use Rattle.solo_core.specs.Stretch.{search, stretch};
 ghost use Rattle.solo_core.specs.Ends.{EndsByRule, CountsConflicts};
 ghost use Rattle.solo_core.specs.declared.sheet.End.TheVariants.{Spent};

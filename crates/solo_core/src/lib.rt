@@ -1,6 +1,8 @@
-//! One core of the solver: a sequential search with clause learning.
+//! One core of the solver: a sequential search with clause learning
+//! (Marques-Silva and Sakallah 1996).
 //!
-//! Today the crate has the rules of a core as definitions, in `specs/`, and what makes them sound as
+//! `specs/` has the rules of a core as definitions. `Core` follows them exactly, over the crates that
+//! hold its clauses, its trail, propagation and conflict analysis. What makes the rules sound stands in
 //! laws: functions without parameters, which do nothing and whose contracts state theorems.
 #![tactic(auto)]
 
@@ -16,6 +18,7 @@ pub use examples::{
 };
 pub use lemma::Lemma;
 pub use sheet::{End, Mail, Posted, Settings, Sheet};
+pub use solo::Core;
 pub use soundness::{
     law_conflict_asserts, law_derived_lemmas_are_true, law_derived_lemmas_check,
     law_first_state_is_sound, law_model_satisfies_formula, law_stretch_is_sound,
@@ -25,8 +28,16 @@ pub use soundness::{
 mod changes;
 mod ends;
 mod examples;
+mod first;
+mod handing;
+mod learning;
 mod lemma;
+mod propagation;
+mod search;
 mod sheet;
+mod solo;
 mod soundness;
 #[cfg(test)]
 mod tests;
+mod turn;
+mod uses;

@@ -1,5 +1,8 @@
+ghost use Rattle.std.specs.Prelude.{◌↔◌, ◌≤◌, IsTrue, All};
+ghost use Rattle.lit_base.specs.Literal.{IsWithin};
+
 use crate::{
-    End, Lemma, Mail, Posted, Settings, Sheet, law_any_clause_may_be_added,
+    Core, End, Lemma, Mail, Posted, Settings, Sheet, law_any_clause_may_be_added,
     law_any_clause_may_be_dropped, law_any_free_variable_may_be_decided, law_any_jump_may_be_made,
     law_conflict_asserts, law_derived_from_more, law_derived_lemmas_are_true,
     law_derived_lemmas_check, law_first_state_is_sound, law_jump_to_level_one,
@@ -8,7 +11,7 @@ use crate::{
     law_stretch_ends_by_rule, law_stretch_is_sound, law_turn_keeps_soundness, law_turns_suffice,
     law_uses_may_change,
 };
-use lit_base::{List, Lit, Model, Name, NoMemory};
+use lit_base::{Clause, Formula, List, Lit, Model, Name, NoMemory};
 use std::alloc::Global;
 use std::process::Abort;
 use std::test::Fail;
@@ -55,6 +58,76 @@ fn mail(alloc: Global, lemma: &Lemma, end: End) -> Result<Mail, NoMemory> {
         volume: 1,
         posted,
     })
+}
+
+/// Whether the clause's variables are at most this one.
+fn is_within(clause: &Clause, variables: u32) -> bool
+    ensures { IsTrue result ↔ All (IsWithin variables) clause.now }
+{
+    clause
+        .lits()
+        .iter()
+        .all(|lit| 1 <= lit.var() && lit.var() <= variables)
+}
+
+/// The formula of these clauses, four of them at the most, over three variables.
+fn formula(rt: &impl Abort, alloc: Global, clauses: &[&[i32]]) -> Result<Formula, NoMemory> {
+    let mut formula = Formula::new(alloc, 3);
+    for numbers in clauses.iter().take(4) {
+        let mut lits = Vec::new(alloc);
+        for number in *numbers {
+            lits.push(Lit::new(*number).expect(rt, "a literal"))?;
+        }
+        let clause = Clause::of(alloc, &lits)?;
+        if is_within(&clause, formula.variables()) && formula.len() < 4 {
+            formula.push(clause)?;
+        }
+    }
+    Ok(formula)
+}
+
+/// The sheet of core 0 after a stretch over these clauses, with this limit as its quota.
+fn sheet_of(
+    rt: &impl Abort,
+    alloc: Global,
+    clauses: &[&[i32]],
+    limit: u32,
+) -> Result<Sheet, NoMemory> {
+    let formula = formula(rt, alloc, clauses)?;
+    let settings = Settings {
+        cores: 1,
+        period: 300,
+        share: 8,
+        limit,
+        seed: 0,
+    };
+    let mut core = Core::make(alloc, &formula, &settings, 0)?;
+    core.stretch(limit.max(1))?;
+    core.sheet()
+}
+
+#[test]
+fn a_core_solves_small_formulas(rt: HostRuntime) -> Result<(), Fail> {
+    let square = [[1, 2].as_slice(), &[1, -2], &[-1, 2], &[-1, -2]];
+    let keeper = [[1, 2].as_slice(), &[1, -2], &[3]];
+    let stepped = [[1, 2, 3].as_slice(), &[1, 2, -3]];
+    let forked = [[1].as_slice(), &[-1, 2, 3], &[-1, 2, -3]];
+    for (clauses, limit, end, lemmas, values) in [
+        (square.as_slice(), 10, End::Unsat, 2, [].as_slice()),
+        (square.as_slice(), 1, End::Spent, 1, &[]),
+        (keeper.as_slice(), 10, End::Sat, 1, &[true, true, true]),
+        (stepped.as_slice(), 10, End::Sat, 1, &[false, true, true]),
+        (forked.as_slice(), 10, End::Sat, 1, &[true, true, true]),
+    ] {
+        let sheet = sheet_of(&rt, rt.alloc(), clauses, limit)?;
+        assert_eq!(rt; sheet.mail.end, end);
+        assert_eq!(rt; sheet.lemmas.len(), lemmas);
+        assert_eq!(rt; sheet.mail.conflicts as usize, lemmas);
+        if let Some(model) = &sheet.model {
+            assert_eq!(rt; model.values(), values);
+        }
+    }
+    Ok(())
 }
 
 #[test]

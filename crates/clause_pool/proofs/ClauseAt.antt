@@ -1,0 +1,66 @@
+-- Finding a held clause by its name, whole: its literals and its uses.
+use Rattle.std.proofs.Common.{◌≡◌, Bool, true, false, cond, List, [], ◌∷◌, refl, ap, sym, ◌∙◌, subst}
+use Rattle.std.specs.Prelude.{Option, Some, None, option_map, find}
+use Rattle.std.proofs.lemmas.Bool.{both_ways, cond_both}
+use Rattle.lit_base.specs.Named.{same_name, lits_at}
+use Rattle.lit_base.specs.Held.{HeldClause, clauses_of, clause_of, is_before, with_clause}
+use Rattle.lit_base.specs.declared.name.Name.{Name}
+use Rattle.lit_base.proofs.HeldClauses.{same_name-true, lits_at-cons}
+
+-- the held clause with this name
+abbrev pub clause_at : List HeldClause → Name → Option HeldClause
+clause_at held n = find (λ c. same_name c.name n) held
+
+-- a function of the first of two that a test chooses from
+pub option_map-cond : {X Y : Type 0} (f : X → Y) (b : Bool) (x : X) (o : Option X) → option_map f (cond b (Some x) o) ≡ cond b (Some (f x)) (option_map f o)
+option_map-cond f true x o = refl
+option_map-cond f false x o = refl
+
+-- the literals that are found are those of the clause that is found
+pub lits_at-clause_at : (held : List HeldClause) (n : Name) → lits_at (clauses_of held) n ≡ option_map (λ c. c.lits) (clause_at held n)
+lits_at-clause_at [] n = refl
+lits_at-clause_at (c ∷ later) n =
+    lits_at-cons (clause_of c) (clauses_of later) n
+    ∙ (ap (λ o. cond (same_name c.name n) (Some c.lits) o) (lits_at-clause_at later n)
+    ∙ sym (option_map-cond (λ d. d.lits) (same_name c.name n) c (clause_at later n)))
+
+-- nothing is found where a function of it isn't
+pub none_from_map : {X Y : Type 0} (f : X → Y) (o : Option X) → option_map f o ≡ None → o ≡ None
+none_from_map f None none = refl
+none_from_map f (Some x) none = cc
+
+-- a name with no literals has no clause
+pub clause_at-none : (held : List HeldClause) (n : Name) → lits_at (clauses_of held) n ≡ None → clause_at held n ≡ None
+clause_at-none held n none = none_from_map (λ c. c.lits) (clause_at held n) (sym (lits_at-clause_at held n) ∙ none)
+
+-- and a name with no clause has no literals
+pub lits_at-free : (held : List HeldClause) (n : Name) → clause_at held n ≡ None → lits_at (clauses_of held) n ≡ None
+lits_at-free held n none = lits_at-clause_at held n ∙ ap (λ o. option_map (λ c. c.lits) o) none
+
+not_found_parts : {X : Type 0} (b : Bool) (x : X) (o : Option X) → cond b (Some x) o ≡ None → (b ≡ false) × (o ≡ None)
+not_found_parts true x o none = cc
+not_found_parts false x o none = (refl, none)
+
+-- two clauses of different names are looked up in either order
+either_order : {X : Type 0} (c d n : Name) (x y : X) (o : Option X) → same_name d c ≡ false →
+    cond (same_name d n) (Some y) (cond (same_name c n) (Some x) o) ≡ cond (same_name c n) (Some x) (cond (same_name d n) (Some y) o)
+either_order c d n x y o apart = by_tests (same_name c n) (same_name d n) refl refl
+  where
+    by_tests : (s t : Bool) → same_name c n ≡ s → same_name d n ≡ t → cond t (Some y) (cond s (Some x) o) ≡ cond s (Some x) (cond t (Some y) o)
+    by_tests true true here there =
+        let same : same_name d c ≡ true = subst (λ m. same_name d m ≡ true) (sym (same_name-true c n here)) there in
+        absurd (both_ways (same_name d c) apart same)
+    by_tests true false here there = refl
+    by_tests false true here there = refl
+    by_tests false false here there = refl
+
+-- the look-up with one clause more, of a new name
+pub clause_at-with : (c : HeldClause) (held : List HeldClause) (n : Name) → clause_at held c.name ≡ None →
+    clause_at (with_clause c held) n ≡ cond (same_name c.name n) (Some c) (clause_at held n)
+clause_at-with c [] n free = refl
+clause_at-with c (d ∷ later) n free =
+    let apart = not_found_parts (same_name d.name c.name) d (clause_at later c.name) free in
+    cond_both (is_before c.name d.name) (c ∷ d ∷ later) (d ∷ with_clause c later)
+    (λ held. clause_at held n ≡ cond (same_name c.name n) (Some c) (clause_at (d ∷ later) n))
+    (λ before. refl)
+    (λ after. ap (λ o. cond (same_name d.name n) (Some d) o) (clause_at-with c later n apart.1) ∙ either_order c.name d.name n c d (clause_at later n) apart.0)

@@ -1,0 +1,10 @@
+pub mod ClauseAt
+pub mod SlotAt
+pub mod Order
+pub mod Volume
+pub mod Added
+pub mod Edited
+pub mod Counted
+pub mod Dropped
+pub mod DroppedNames
+pub mod Packed

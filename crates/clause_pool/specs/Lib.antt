@@ -1,0 +1,4 @@
+pub mod Uses
+pub mod Rising
+pub mod Arena
+pub mod Places

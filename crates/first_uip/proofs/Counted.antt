@@ -1,0 +1,183 @@
+-- Counts of the flagged entries that are still to be met.
+use Rattle.std.proofs.Common.{◌≡◌, ℕ, ◌==◌, ◌+◌, ◌≤◌, ◌<◌, Bool, true, false, cond, ◌&&◌, ◌||◌, List, [], ◌∷◌, length, reverse, refl, ap, ◌∙◌, sym, subst, arith}
+use Rattle.std.specs.Prelude.{Option, Some, nat_lt, slice_get}
+use Rattle.std.proofs.lemmas.Bool.{lt-ltb, eqb-true, eqb-false, eq-eqb, ne_eqb, cond-true, cond-false}
+use Rattle.std.proofs.lemmas.List.Sums.{sum_by-cons, count_by-le-length}
+use Rattle.lit_base.specs.declared.trail.Entry.{Entry}
+use Rattle.lit_base.specs.declared.name.Name.{Name}
+use Rattle.lit_base.specs.Literal.{Literal}
+use Rattle.lit_base.specs.Trail.{level_of, is_free}
+use Rattle.lit_base.specs.Fits.{HasDistinctVariables}
+use Rattle.lit_base.specs.Analysis.{Trace, is_marked, is_resolved, is_other_left, settle, touch, trace}
+use Rattle.first_uip.specs.Marks.{is_flagged, AreFlagsOf, flagged_count, any_level, this_level, one_if, IsCounted}
+use Rattle.first_uip.specs.Places.{before}
+use Rattle.first_uip.specs.declared.marks.Marks.{Marks}
+use Rattle.first_uip.proofs.Placed.{before_next, level_of-free}
+
+-- one where both tests pass
+abbrev one_where : Bool → Bool → ℕ
+one_where a b = cond (a && b) 1 0
+
+one_where-true : (a b : Bool) → b ≡ true → one_where a b ≡ cond a 1 0
+one_where-true true b is = ap (λ t. one_where true t) is
+one_where-true false b is = refl
+
+one_where-false : (a b : Bool) → b ≡ false → one_where a b ≡ 0
+one_where-false true b is = ap (λ t. one_where true t) is
+one_where-false false b is = refl
+
+-- one for a flagged entry whose level passes
+abbrev one_for : (ℕ → Bool) → List Bool → Entry → ℕ
+one_for test flags e = one_where (test e.level) (is_flagged flags e.lit.variable)
+
+pub flagged_count-cons : (test : ℕ → Bool) (flags : List Bool) (e : Entry) (older : List Entry) → flagged_count test flags (e ∷ older) ≡ one_for test flags e + flagged_count test flags older
+flagged_count-cons test flags e older = sum_by-cons (one_for test flags) e older
+
+-- there are at most as many as entries
+pub flagged_count-le : (test : ℕ → Bool) (flags : List Bool) (rest : List Entry) → flagged_count test flags rest ≤ length rest
+flagged_count-le test flags rest = count_by-le-length (λ e. test e.level && is_flagged flags e.lit.variable) rest
+
+-- no flag is set, so none counts
+pub flagged_count-clear : (test : ℕ → Bool) (flags : List Bool) (rest : List Entry) → ((v : ℕ) → is_flagged flags v ≡ false) → flagged_count test flags rest ≡ 0
+flagged_count-clear test flags [] clear = refl
+flagged_count-clear test flags (e ∷ older) clear =
+    omega (
+      arith,
+      flagged_count-cons test flags e older,
+      one_where-false (test e.level) (is_flagged flags e.lit.variable) (clear e.lit.variable),
+      flagged_count-clear test flags older clear,
+    )
+
+-- one more flag, of a variable whose flag wasn't set: its entry counts, if it is among these and its level passes
+pub flagged_count-more : (test : ℕ → Bool) (flags after : List Bool) (v : ℕ) (rest : List Entry) → HasDistinctVariables rest →
+    ((w : ℕ) → is_flagged after w ≡ ((v == w) || is_flagged flags w)) → is_flagged flags v ≡ false →
+    flagged_count test after rest ≡ flagged_count test flags rest + one_if test (level_of rest v)
+flagged_count-more test flags after v [] distinct one unset = refl
+flagged_count-more test flags after v (e ∷ older) distinct one unset =
+    by_test (e.lit.variable == v) refl (flagged_count-more test flags after v older distinct.1 one unset)
+  where
+    by_test : (b : Bool) → (e.lit.variable == v) ≡ b → flagged_count test after older ≡ flagged_count test flags older + one_if test (level_of older v) →
+        flagged_count test after (e ∷ older) ≡ flagged_count test flags (e ∷ older) + one_if test (cond b (Some e.level) (level_of older v))
+    by_test true is rest =
+        let here : e.lit.variable ≡ v = eqb-true e.lit.variable v is in
+        let set_now : is_flagged after e.lit.variable ≡ true = one e.lit.variable ∙ ap (λ b. b || is_flagged flags e.lit.variable) (eq-eqb v e.lit.variable (sym here)) in
+        let was_not : is_flagged flags e.lit.variable ≡ false = ap (is_flagged flags) here ∙ unset in
+        let none : one_if test (level_of older v) ≡ 0 = ap (one_if test) (level_of-free v older (subst (λ w. is_free older w ≡ true) here distinct.0)) in
+        omega (
+          arith,
+          flagged_count-cons test after e older,
+          flagged_count-cons test flags e older,
+          rest,
+          one_where-true (test e.level) (is_flagged after e.lit.variable) set_now,
+          one_where-false (test e.level) (is_flagged flags e.lit.variable) was_not,
+        )
+    by_test false is rest =
+        let other : (v == e.lit.variable) ≡ false = ne_eqb v e.lit.variable (λ same. eqb-false e.lit.variable v is (sym same)) in
+        let as_before : one_for test after e ≡ one_for test flags e = ap (one_where (test e.level)) (one e.lit.variable ∙ ap (λ b. b || is_flagged flags e.lit.variable) other) in
+        omega (arith, flagged_count-cons test after e older, flagged_count-cons test flags e older, rest)
+
+-- marks without flags, with no counts
+pub counted_clear : (level : ℕ) (rest : List Entry) (m : Marks) → ((v : ℕ) → is_flagged m.flags.items v ≡ false) → m.pending ≡ 0 → m.left ≡ 0 → IsCounted level rest m
+counted_clear level rest m clear pending left = record {
+  all = pending ∙ sym (flagged_count-clear any_level m.flags.items rest clear);
+  of_level = left ∙ sym (flagged_count-clear (this_level level) m.flags.items rest clear);
+}
+
+-- marks with one flag more, and one more in the counts where its entry is among these
+pub counted_more : (level v : ℕ) (rest : List Entry) (m after : Marks) → HasDistinctVariables rest → ((w : ℕ) → is_flagged after.flags.items w ≡ ((v == w) || is_flagged m.flags.items w)) →
+    is_flagged m.flags.items v ≡ false → after.pending ≡ m.pending + one_if any_level (level_of rest v) → after.left ≡ m.left + one_if (this_level level) (level_of rest v) →
+    IsCounted level rest m → IsCounted level rest after
+counted_more level v rest m after distinct one unset pending left counted = record {
+  all = omega (arith, pending, counted.all, flagged_count-more any_level m.flags.items after.flags.items v rest distinct one unset);
+  of_level = omega (arith, left, counted.of_level, flagged_count-more (this_level level) m.flags.items after.flags.items v rest distinct one unset);
+}
+
+-- what a test of the flag says of the entry
+pub flag_at : (flags : List Bool) (e : Entry) (v : ℕ) (answer is : Bool) → v ≡ e.lit.variable → answer ≡ is_flagged flags v → answer ≡ is → is_flagged flags e.lit.variable ≡ is
+flag_at flags e v answer is same tested known = ap (is_flagged flags) (sym same) ∙ (sym tested ∙ known)
+
+-- the counts before the next place, of the entry at this one and the older ones
+counted_next : (level place : ℕ) (trail : List Entry) (e : Entry) (m : Marks) → slice_get (reverse trail) place ≡ Some e → IsCounted level (before (place + 1) trail) m →
+    IsCounted level (e ∷ before place trail) m
+counted_next level place trail e m there counted = subst (λ rest. IsCounted level rest m) (before_next trail place e there) counted
+
+-- an entry without a flag doesn't count
+pub counted_passed : (level place : ℕ) (trail : List Entry) (e : Entry) (m : Marks) → slice_get (reverse trail) place ≡ Some e → is_flagged m.flags.items e.lit.variable ≡ false →
+    IsCounted level (before (place + 1) trail) m → IsCounted level (before place trail) m
+counted_passed level place trail e m there unset counted =
+    let next = counted_next level place trail e m there counted in
+    let older = before place trail in
+    record {
+      all = omega (arith, next.all, flagged_count-cons any_level m.flags.items e older, one_where-false true (is_flagged m.flags.items e.lit.variable) unset);
+      of_level = omega (
+        arith,
+        next.of_level,
+        flagged_count-cons (this_level level) m.flags.items e older,
+        one_where-false (this_level level e.level) (is_flagged m.flags.items e.lit.variable) unset,
+      );
+    }
+
+-- a flagged entry counts, and where it is of the level it counts there
+pub counted_some : (level place : ℕ) (trail : List Entry) (e : Entry) (m : Marks) → slice_get (reverse trail) place ≡ Some e → is_flagged m.flags.items e.lit.variable ≡ true →
+    IsCounted level (before (place + 1) trail) m → (0 < m.pending) × (e.level ≡ level → 0 < m.left)
+counted_some level place trail e m there is_set counted =
+    let next = counted_next level place trail e m there counted in
+    let older = before place trail in (
+      omega (arith, next.all, flagged_count-cons any_level m.flags.items e older, one_where-true true (is_flagged m.flags.items e.lit.variable) is_set),
+      λ here. omega (
+        arith,
+        next.of_level,
+        flagged_count-cons (this_level level) m.flags.items e older,
+        one_where-true (this_level level e.level) (is_flagged m.flags.items e.lit.variable) is_set,
+        cond-true {A = ℕ} (e.level == level) 1 0 (eq-eqb e.level level here),
+      ),
+    )
+
+-- once it is taken out of the counts, they are those of the older entries
+pub counted_met : (level place : ℕ) (trail : List Entry) (e : Entry) (m after : Marks) → slice_get (reverse trail) place ≡ Some e → is_flagged m.flags.items e.lit.variable ≡ true →
+    after.flags ≡ m.flags → after.pending + 1 ≡ m.pending → after.left + cond (e.level == level) 1 0 ≡ m.left → IsCounted level (before (place + 1) trail) m →
+    IsCounted level (before place trail) after
+counted_met level place trail e m after there is_set same pending left counted =
+    let next = counted_next level place trail e m there counted in
+    let older = before place trail in
+    let items = ap (λ flags. flags.items) (sym same) in
+    let all : after.pending ≡ flagged_count any_level m.flags.items older =
+    omega (arith, pending, next.all, flagged_count-cons any_level m.flags.items e older, one_where-true true (is_flagged m.flags.items e.lit.variable) is_set) in
+    let of_level : after.left ≡ flagged_count (this_level level) m.flags.items older =
+    omega (
+      arith,
+      left,
+      next.of_level,
+      flagged_count-cons (this_level level) m.flags.items e older,
+      one_where-true (this_level level e.level) (is_flagged m.flags.items e.lit.variable) is_set,
+    ) in
+    record {
+      all = all ∙ ap (λ flags. flagged_count any_level flags older) items;
+      of_level = of_level ∙ ap (λ flags. flagged_count (this_level level) flags older) items;
+    }
+
+-- whether another is left is whether the count is above none
+pub left_by_count : (level : ℕ) (flags : List Bool) (marked : List ℕ) (rest : List Entry) → AreFlagsOf marked flags → nat_lt 0 (flagged_count (this_level level) flags rest) ≡ is_other_left level marked rest
+left_by_count level flags marked [] are = refl
+left_by_count level flags marked (e ∷ older) are =
+    ap (λ n. nat_lt 0 n) (flagged_count-cons (this_level level) flags e older)
+    ∙ (by_test ((e.level == level) && is_flagged flags e.lit.variable) (flagged_count (this_level level) flags older)
+    ∙ (ap (λ b. ((e.level == level) && is_flagged flags e.lit.variable) || b) (left_by_count level flags marked older are)
+    ∙ ap (λ b. ((e.level == level) && b) || is_other_left level marked older) (are e.lit.variable)))
+  where
+    by_test : (b : Bool) (n : ℕ) → nat_lt 0 (cond b 1 0 + n) ≡ (b || nat_lt 0 n)
+    by_test true n = lt-ltb 0 (1 + n) (omega arith)
+    by_test false n = ap (λ m. nat_lt 0 m) (omega arith)
+
+-- where none counts, the trace changes nothing
+pub trace_done : (look : Name → Option (List Literal)) (level : ℕ) (flags : List Bool) (rest : List Entry) (t : Trace) → AreFlagsOf t.marked flags → flagged_count any_level flags rest ≡ 0 →
+    trace look level rest t ≡ t
+trace_done look level flags [] t are none = refl
+trace_done look level flags (e ∷ older) t are none =
+    let unset : is_flagged flags e.lit.variable ≡ false = by_test (is_flagged flags e.lit.variable) (omega (arith, flagged_count-cons any_level flags e older)) in
+    ap (trace look level older) (cond-false (is_marked t.marked e.lit.variable) (settle look (is_resolved look level t.marked e older) e (touch e t)) t (sym (are e.lit.variable) ∙ unset))
+    ∙ trace_done look level flags older t are (omega (arith, flagged_count-cons any_level flags e older))
+  where
+    by_test : (b : Bool) → one_where true b ≡ 0 → b ≡ false
+    by_test true is = absurd (omega arith)
+    by_test false is = refl

@@ -1,0 +1,80 @@
+-- A step of the walk, against that of the definition.
+use Rattle.std.proofs.Common.{◌≡◌, ℕ, ◌==◌, ◌+◌, ◌-◌, ◌≤◌, ◌<◌, Bool, true, false, ◌&&◌, ◌||◌, List, [], ◌∷◌, length, drop, reverse, refl, ap, ◌∙◌, sym, subst, arith}
+use Rattle.std.specs.Prelude.{Option, Some, nat_lt, slice_get}
+use Rattle.std.proofs.lemmas.Bool.{cond-true, cond-false}
+use Rattle.std.proofs.lemmas.List.{drop-drop}
+use Rattle.lit_base.specs.Literal.{Literal}
+use Rattle.lit_base.specs.declared.trail.Entry.{Entry}
+use Rattle.lit_base.specs.declared.name.Name.{Name}
+use Rattle.lit_base.specs.Analysis.{Trace, is_marked, is_resolved, touch, settle, trace}
+use Rattle.first_uip.specs.Marks.{is_flagged, AreFlagsOf, flagged_count, this_level, IsCounted}
+use Rattle.first_uip.specs.Places.{before}
+use Rattle.first_uip.specs.Walked.{Traces, first_step}
+use Rattle.first_uip.specs.declared.walk.Walk.{Walk}
+use Rattle.first_uip.specs.declared.marks.Marks.{Marks}
+use Rattle.first_uip.proofs.Placed.{before_next}
+use Rattle.first_uip.proofs.Counted.{left_by_count, trace_done}
+
+-- an entry whose flag isn't set is passed over
+pub step_unmarked : (look : Name → Option (List Literal)) (level place : ℕ) (trail : List Entry) (e : Entry) (flags : List Bool) (t : Trace) → slice_get (reverse trail) place ≡ Some e →
+    AreFlagsOf t.marked flags → is_flagged flags e.lit.variable ≡ false → first_step look level (before (place + 1) trail) t ≡ t
+step_unmarked look level place trail e flags t is are unset =
+    ap (λ rest. first_step look level rest t) (before_next trail place e is)
+    ∙ cond-false (is_marked t.marked e.lit.variable) (settle look (is_resolved look level t.marked e (before place trail)) e (touch e t)) t (sym (are e.lit.variable) ∙ unset)
+
+-- one whose flag is set is resolved or stays
+pub step_marked : (look : Name → Option (List Literal)) (level place left : ℕ) (trail : List Entry) (e : Entry) (flags : List Bool) (resolved : Bool) (t : Trace) →
+    slice_get (reverse trail) place ≡ Some e → AreFlagsOf t.marked flags → is_flagged flags e.lit.variable ≡ true → left ≡ flagged_count (this_level level) flags (before place trail) →
+    resolved ≡ ((e.level == 0) || ((e.level == level) && nat_lt 0 left)) → first_step look level (before (place + 1) trail) t ≡ settle look resolved e (touch e t)
+step_marked look level place left trail e flags resolved t is are is_set left_is resolved_is =
+    ap (λ rest. first_step look level rest t) (before_next trail place e is)
+    ∙ (cond-true (is_marked t.marked e.lit.variable) (settle look (is_resolved look level t.marked e (before place trail)) e (touch e t)) t (sym (are e.lit.variable) ∙ is_set)
+    ∙ ap (λ b. settle look b e (touch e t))
+    (sym (resolved_is ∙ ap (λ b. (e.level == 0) || ((e.level == level) && b)) (ap (λ n. nat_lt 0 n) left_is ∙ left_by_count level flags t.marked (before place trail) are))))
+
+-- counts of which the trace knows nothing
+pub traces_met : (level : ℕ) (walk : Walk) (after : Marks) (t : Trace) → after.flags ≡ walk.marks.flags → Traces level walk t → Traces level (record walk { marks = after }) t
+traces_met level walk after t same stands = record {
+  flagged = λ v. ap (λ flags. is_flagged flags.items v) same ∙ stands.flagged v;
+  lemma = stands.lemma;
+  jump = stands.jump;
+  turned = stands.turned;
+  met = stands.met;
+}
+
+-- the trace of some entries is their first step, and the trace of the others
+trace_first : (look : Name → Option (List Literal)) (level : ℕ) (rest : List Entry) (t : Trace) → trace look level rest t ≡ trace look level (drop 1 rest) (first_step look level rest t)
+trace_first look level [] t = refl
+trace_first look level (e ∷ older) t = refl
+
+pub trace_next : (look : Name → Option (List Literal)) (level place : ℕ) (trail : List Entry) (t : Trace) → place < length trail →
+    trace look level (before (place + 1) trail) t ≡ trace look level (before place trail) (first_step look level (before (place + 1) trail) t)
+trace_next look level place trail t below =
+    let one_less : length trail - (place + 1) + 1 ≡ length trail - place = omega arith in
+    trace_first look level (before (place + 1) trail) t
+    ∙ ap (λ rest. trace look level rest (first_step look level (before (place + 1) trail) t)) (drop-drop 1 (length trail - (place + 1)) trail ∙ ap (λ i. drop i trail) one_less)
+
+-- a walk that has come down to a place: it stands at a trace from which the rest leads where the whole leads
+pub record IsWalked (look : Name → Option (List Literal)) (level place : ℕ) (trail : List Entry) (walk : Walk) (start : Trace) : Type 0 where
+  pub trace_here : Trace
+  pub stands : Traces level walk trace_here
+  pub rest : trace look level (before place trail) trace_here ≡ trace look level trail start
+
+-- one step further
+pub walked_more : (look : Name → Option (List Literal)) (level place : ℕ) (trail : List Entry) (walk after : Walk) (start : Trace) → 0 < place → place ≤ length trail →
+    ((t : Trace) → Traces level walk t → Traces level after (first_step look level (before (place - 1 + 1) trail) t)) → IsWalked look level place trail walk start →
+    IsWalked look level (place - 1) trail after start
+walked_more look level place trail walk after start above within step walked =
+    let next : place - 1 + 1 ≡ place = omega arith in
+    record {
+      trace_here = first_step look level (before (place - 1 + 1) trail) walked.trace_here;
+      stands = step walked.trace_here walked.stands;
+      rest = sym (trace_next look level (place - 1) trail walked.trace_here (omega arith)) ∙ (ap (λ p. trace look level (before p trail) walked.trace_here) next ∙ walked.rest);
+    }
+
+-- where nothing marked is still to be met, the walk is done
+pub walked_done : (look : Name → Option (List Literal)) (level place : ℕ) (trail : List Entry) (walk : Walk) (start : Trace) → IsCounted level (before place trail) walk.marks →
+    walk.marks.pending ≡ 0 → IsWalked look level place trail walk start → Traces level walk (trace look level trail start)
+walked_done look level place trail walk start counted none walked =
+    let done = trace_done look level walk.marks.flags.items (before place trail) walked.trace_here walked.stands.flagged (sym counted.all ∙ none) in
+    subst (Traces level walk) (sym done ∙ walked.rest) walked.stands

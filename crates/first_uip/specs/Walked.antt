@@ -1,0 +1,30 @@
+-- How a walk over the trail stands to the definition of the analysis.
+use Rattle.std.specs.Prelude.{◌≡◌, ℕ, List, [], ◌∷◌, ◌++◌, map, reverse, Option}
+use Rattle.lit_base.specs.Literal.{Literal, negation}
+use Rattle.lit_base.specs.Analysis.{Trace, variables_of, trace_step, back_of}
+use Rattle.lit_base.specs.declared.trail.Entry.{Entry}
+use Rattle.lit_base.specs.declared.name.Name.{Name}
+use Rattle.first_uip.specs.Marks.{AreFlagsOf}
+use Rattle.first_uip.specs.declared.walk.Walk.{Walk}
+
+-- the trace that has met nothing, with no marks
+abbrev pub blank_trace : Trace
+blank_trace = record { marked = []; stays = []; hints = []; touched = [] }
+
+-- the trace with a clause cited: its variables are marked, and its name is a hint
+abbrev pub cited : (Name → Option (List Literal)) → Name → Trace → Trace
+cited look name t = record { marked = variables_of (look name) ++ t.marked; stays = t.stays; hints = name ∷ t.hints; touched = t.touched }
+
+-- the step at the newest of these entries
+abbrev pub first_step : (Name → Option (List Literal)) → ℕ → List Entry → Trace → Trace
+first_step look level [] t = t
+first_step look level (e ∷ older) t = trace_step look level e older t
+
+-- a walk stands where a trace does: flags for what is marked, and for what stays the lemma and the level to jump back to;
+-- its hints stand the other way round
+pub record Traces (level : ℕ) (walk : Walk) (t : Trace) : Type 0 where
+  pub flagged : AreFlagsOf t.marked walk.marks.flags.items
+  pub lemma : walk.lits ≡ map (λ e. negation e.lit) t.stays
+  pub jump : walk.back ≡ back_of level t.stays
+  pub turned : walk.hints ≡ reverse t.hints
+  pub met : walk.touched ≡ t.touched

@@ -1,0 +1,135 @@
+ghost use Rattle.std.specs.Prelude.{◌≡◌, ◌+◌, ◌==◌, ◌≤◌, ◌<◌, ◌&&◌, ◌||◌, ℕ, List, ◌++◌, false, length, map, nat_lt, replicate, vec_len, if◌then◌else◌, IfOk};
+ghost use Rattle.std.specs.List.{All};
+ghost use Rattle.lit_base.specs.Trail.{level_of};
+ghost use Rattle.lit_base.specs.Fits.{HasDistinctVariables};
+ghost use Rattle.lit_base.specs.declared.trail.Entry.{Entry};
+ghost use Rattle.trail_book.specs.TrailState.{IsTrail};
+ghost use Rattle.first_uip.specs.Places.{before};
+
+use lit_base::{Entry, Lit, NoMemory};
+use std::alloc::Global;
+use trail_book::Trail;
+
+/// Which variables are marked, and how many marked entries are still to be met.
+///
+/// `flags` is by variable; `pending` counts the marked entries that are still to be met, and `left` those of the
+/// current level among them.
+#[derive(Debug, Drop)]
+pub(crate) struct Marks {
+    pub(crate) flags: Vec<bool>,
+    pub(crate) pending: u32,
+    pub(crate) left: u32,
+}
+
+impl Marks {
+    ghost use Rattle.first_uip.specs.Marks.{is_flagged, AreFlagsOf, IsCounted, any_level, this_level, one_if};
+
+    /// No variable is marked, of so many.
+    pub(crate) fn new(alloc: Global, variables: u32) -> Result<Marks, NoMemory>
+        ensures room { IfOk result (λ marks. vec_len marks.flags ≡ variables + 1) }
+        ensures clear { IfOk result (λ marks. (v : ℕ) → is_flagged marks.flags.items v ≡ false) }
+        ensures counted { IfOk result (λ marks. (level : ℕ) (rest : List Entry) → IsCounted level rest marks) }
+    {
+        Ok(Marks {
+            flags: no_flags(alloc, variables as usize + 1)?,
+            pending: 0,
+            left: 0,
+        })
+    }
+
+    /// Whether a variable is marked.
+    pub(crate) fn is_marked(&self, var: u32) -> bool
+        requires { var < vec_len self.now.flags }
+        ensures { result ≡ is_flagged self.now.flags.items var }
+    {
+        self.flags[var as usize]
+    }
+
+    /// Whether a marked entry that was met is resolved: at level 0, and at the current level while another of that
+    /// level is left.
+    pub(crate) fn is_resolved(&self, level: u32, entry: &Entry) -> bool
+        ensures { result ≡ ((entry.now.level == 0) || ((entry.now.level == level) && nat_lt 0 self.now.left)) }
+    {
+        entry.level == 0 || (entry.level == level && self.left > 0)
+    }
+
+    /// Takes a marked entry that is met out of the counts.
+    pub(crate) fn meet(&mut self, level: u32, entry: &Entry)
+        requires pending { 0 < self.old.pending }
+        requires left { entry.now.level ≡ level → 0 < self.old.left }
+        ensures flags { self.new.flags ≡ self.old.flags }
+        ensures pending { self.new.pending + 1 ≡ self.old.pending }
+        ensures left { self.new.left + (if entry.now.level == level then 1 else 0) ≡ self.old.left }
+    {
+        self.pending -= 1;
+        if entry.level == level {
+            self.left -= 1;
+        }
+    }
+
+    /// Counts a variable that is newly marked: by the level of its entry, if that is still to be met.
+    fn count(&mut self, level: u32, found: Option<u32>)
+        requires pending { self.old.pending ≤ 1000000 }
+        requires left { self.old.left ≤ 1000000 }
+        ensures flags { self.new.flags ≡ self.old.flags }
+        ensures pending { self.new.pending ≡ self.old.pending + one_if any_level found }
+        ensures left { self.new.left ≡ self.old.left + one_if (this_level level) found }
+    {
+        let Some(found) = found else {
+            return;
+        };
+        self.pending += 1;
+        if found == level {
+            self.left += 1;
+        }
+    }
+
+    /// Marks a variable, and counts its entry if that stands before the place.
+    fn mark(&mut self, trail: &Trail, level: u32, place: usize, var: u32)
+        requires trail { IsTrail trail.now }
+        requires within { var < vec_len self.old.flags }
+        requires counted { IsCounted level (before place trail.now.entries) self.old }
+        ensures room { vec_len self.new.flags ≡ vec_len self.old.flags }
+        ensures flags { (v : ℕ) → is_flagged self.new.flags.items v ≡ ((var == v) || is_flagged self.old.flags.items v) }
+        ensures counted { IsCounted level (before place trail.now.entries) self.new }
+    {
+        if self.flags[var as usize] {
+            return;
+        }
+        self.flags[var as usize] = true;
+        self.count(level, level_before(trail, place, var));
+    }
+
+    /// Marks the variables of the literals.
+    pub(crate) fn mark_all(&mut self, trail: &Trail, level: u32, place: usize, lits: &[Lit])
+        requires trail { IsTrail trail.now }
+        requires within { All (λ l. l.variable < vec_len self.old.flags) lits.now }
+        requires counted { IsCounted level (before place trail.now.entries) self.old }
+        ensures room { vec_len self.new.flags ≡ vec_len self.old.flags }
+        ensures marks { (marked : List ℕ) → AreFlagsOf marked self.old.flags.items →
+            AreFlagsOf (map (λ l. l.variable) lits.now ++ marked) self.new.flags.items }
+        ensures counted { IsCounted level (before place trail.now.entries) self.new }
+    {
+        for lit in lits {
+            self.mark(trail, level, place, lit.var());
+        }
+    }
+}
+
+/// A flag for each of so many variables, none of them set.
+fn no_flags(alloc: Global, count: usize) -> Result<Vec<bool>, NoMemory>
+    ensures { IfOk result (λ flags. flags.items ≡ replicate count false) }
+{
+    Ok(vec![in alloc; false; count]?)
+}
+
+/// The level of a variable whose entry stands before the place.
+fn level_before(trail: &Trail, place: usize, var: u32) -> Option<u32>
+    requires { HasDistinctVariables trail.now.entries }
+    ensures { result ≡ level_of (before place trail.now.entries) var }
+{
+    match trail.place(var) {
+        Some(at) if at < place => Some(trail.entry(at).level),
+        _ => None,
+    }
+}

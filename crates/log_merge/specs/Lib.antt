@@ -1,0 +1,5 @@
+pub mod Sums
+pub mod Numbering
+pub mod Part
+pub mod Writing
+pub mod Log

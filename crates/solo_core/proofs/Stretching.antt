@@ -1,0 +1,93 @@
+-- A stretch that makes its searches one after the other.
+use Rattle.std.proofs.Common.{◌≡◌, ℕ, suc, ◌==◌, ◌+◌, List, refl, ap, sym, ◌∙◌, subst, arith}
+use Rattle.std.specs.Prelude.{Option, Some, None}
+use Rattle.std.proofs.lemmas.Bool.{cond-false, ne_eqb}
+use Rattle.lit_base.specs.Rounds.{NamedClause}
+use Rattle.lit_base.specs.Held.{clauses_of}
+use Rattle.lit_base.specs.Quiet.{AreQuietBelow}
+use Rattle.solo_core.specs.State.{CoreFrame, CoreState}
+use Rattle.solo_core.specs.Turn.{Turned}
+use Rattle.solo_core.specs.declared.turn.TurnEnd.{TurnEnd}
+use Rattle.solo_core.specs.declared.turn.TurnEnd.TheVariants.{Decided, Learnt, Refuted, Modelled}
+use Rattle.solo_core.specs.Stretch.{Stretched, search, ended_at_root, after_search, searches}
+use Rattle.solo_core.specs.declared.sheet.End.{End}
+use Rattle.solo_core.specs.declared.sheet.End.TheVariants.{Spent}
+use Rattle.solo_core.specs.Soundness.{IsSound}
+use Rattle.solo_core.specs.SearchState.{SearchState, IsJoined, IsReady}
+use Rattle.solo_core.specs.SearchSteps.{search_at, FollowsSearch}
+use Rattle.solo_core.proofs.SoundStretch.{IsTurnSound, search_kept}
+
+sound_unless : (base : List NamedClause) (f : CoreFrame) (k : CoreState) (e : TurnEnd) → IsTurnSound base f k e → (e ≡ Refuted → ⊥) → IsSound base f k
+sound_unless base f k Decided is other = is
+sound_unless base f k Learnt is other = is
+sound_unless base f k Modelled is other = is.0
+sound_unless base f k Refuted is other = absurd (other refl)
+
+-- a whole search of a state
+abbrev pub searched : CoreFrame → CoreState → Turned
+searched f k = search (f.variables + 1) f k
+
+-- a search that doesn't refute keeps what is sound
+searched_sound : (base : List NamedClause) (f : CoreFrame) (k : CoreState) → IsSound base f k → ((searched f k).came_to ≡ Refuted → ⊥) → IsSound base f (searched f k).state
+searched_sound base f k sound other = let t = searched f k in sound_unless base f t.state t.came_to (search_kept (f.variables + 1) base f k sound).sound other
+
+-- so at no lower level a clause was left unit or falsified
+pub searched_quiet : (s after : SearchState) (e : TurnEnd) → IsReady s → after ≡ search_at s.frame (searched s.frame s.state).state → e ≡ (searched s.frame s.state).came_to →
+    (e ≡ Refuted → ⊥) → AreQuietBelow after.state.trail (clauses_of after.state.clauses)
+searched_quiet s after e ready is end other =
+    subst (λ (t : SearchState). AreQuietBelow t.state.trail (clauses_of t.state.clauses)) (sym is)
+    (searched_sound ready.base s.frame s.state ready.sound (λ refutes. other (end ∙ refutes))).quiet
+
+-- what the searches so far leave: the search is ready, and the searches to come end where the whole stretch ends
+pub record IsStretching (f : CoreFrame) (whole : Stretched) (left : ℕ) (s : SearchState) : Type 0 where
+  pub ready : IsReady s
+  pub frame_is : s.frame ≡ f
+  pub rest : searches left s.frame s.state ≡ whole
+
+-- what follows the next search
+follows_next : (s found after : SearchState) (e : TurnEnd) (o : Option End) → found ≡ search_at s.frame (searched s.frame s.state).state → e ≡ (searched s.frame s.state).came_to →
+    FollowsSearch found.frame found.state e after o → FollowsSearch s.frame (searched s.frame s.state).state (searched s.frame s.state).came_to after o
+follows_next s found after e o found_is end follows =
+    let t = searched s.frame s.state in
+    subst (λ (d : TurnEnd). FollowsSearch s.frame t.state d after o) end (subst (λ (x : SearchState). FollowsSearch x.frame x.state e after o) found_is follows)
+
+-- where a stretch ended
+pub record HasStretched (f : CoreFrame) (whole : Stretched) (after : SearchState) (ended : End) : Type 0 where
+  pub state : after ≡ search_at f whole.state
+  pub end : ended ≡ whole.ended
+
+-- the next search ends the stretch
+pub stretch_leaves : (f : CoreFrame) (whole : Stretched) (left less : ℕ) (s found after : SearchState) (e : TurnEnd) (ended : End) → left ≡ suc less → IsStretching f whole left s →
+    found ≡ search_at s.frame (searched s.frame s.state).state → e ≡ (searched s.frame s.state).came_to → FollowsSearch found.frame found.state e after (Some ended) → HasStretched f whole after ended
+stretch_leaves f whole left less s found after e ended is stretching found_is end follows =
+    let next = follows_next s found after e (Some ended) found_is end follows in
+    let whole_is : record { state = after.state; ended = ended } ≡ whole = sym (next.1 (searches less s.frame)) ∙ (ap (λ n. searches n s.frame s.state) (sym is) ∙ stretching.rest) in
+    record {
+      state = next.0 ∙ (ap (λ g. search_at g after.state) stretching.frame_is ∙ ap (λ (w : Stretched). search_at f w.state) whole_is);
+      end = ap (λ (w : Stretched). w.ended) whole_is;
+    }
+
+learnt_more : (f : CoreFrame) (more : CoreState → Stretched) (k : CoreState) (e : TurnEnd) → e ≡ Learnt → (k.conflicts ≡ f.limit → ⊥) → after_search f more k e ≡ more k
+learnt_more f more k e is left =
+    ap (λ d. after_search f more k d) is ∙ cond-false (k.conflicts == f.limit) (ended_at_root Spent k) (more k) (ne_eqb k.conflicts f.limit left)
+
+-- or is followed by the others
+pub stretch_goes_on : (f : CoreFrame) (whole : Stretched) (left less : ℕ) (s found after : SearchState) (e : TurnEnd) → left ≡ suc less → IsStretching f whole left s →
+    found ≡ search_at s.frame (searched s.frame s.state).state → e ≡ (searched s.frame s.state).came_to → FollowsSearch found.frame found.state e after None → IsJoined after →
+    IsStretching f whole less after
+stretch_goes_on f whole left less s found after e is stretching found_is end follows joined =
+    let next = follows_next s found after e None found_is end follows in
+    let t = searched s.frame s.state in
+    let there : IsJoined (search_at s.frame t.state) = subst IsJoined next.0 joined in
+    let ready : IsReady (search_at s.frame t.state) = record {
+      base = stretching.ready.base;
+      sound = searched_sound stretching.ready.base s.frame s.state stretching.ready.sound (λ refutes. let clash : Learnt ≡ Refuted = sym next.1 ∙ refutes in cc);
+      joined = there;
+      left = let low = there.limit in let apart = next.2 in omega arith;
+    } in
+    record {
+      ready = subst IsReady (sym next.0) ready;
+      frame_is = ap (λ (x : SearchState). x.frame) next.0 ∙ stretching.frame_is;
+      rest = subst (λ (x : SearchState). searches less x.frame x.state ≡ whole) (sym next.0)
+          (sym (learnt_more s.frame (searches less s.frame) t.state t.came_to next.1 next.2) ∙ (ap (λ n. searches n s.frame s.state) (sym is) ∙ stretching.rest));
+    }

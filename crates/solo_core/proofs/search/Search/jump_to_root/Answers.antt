@@ -1,0 +1,16 @@
+use Rattle.std.proofs.Common.{subst, sym}
+use Rattle.lit_base.specs.Held.{clauses_of}
+use Rattle.lit_base.specs.Quiet.{AreQuietBelow}
+use Rattle.solo_core.specs.SearchState.{SearchState, IsJoined}
+use Rattle.solo_core.specs.contracts.search.Search.{the_view}
+use Rattle.solo_core.proofs.Joined.{jumped_joined}
+use Rattle.solo_core.proofs.search.Search.jump_to_root.Goals as goal
+
+-- the parts fit one another
+pub returns-clause-joined : goal.returns-clause-joined
+returns-clause-joined c =
+    let joined : IsJoined (the_view c.self.inside) = subst IsJoined (sym c.self.view_is) c.requires.joined in
+    let quiet : AreQuietBelow c.self.inside.trail.entries (clauses_of c.self.inside.pool) =
+    subst (λ (s : SearchState). AreQuietBelow s.state.trail (clauses_of s.state.clauses)) (sym c.self.view_is) c.requires.quiet in
+    jumped_joined (the_view c.self.inside) c.jump_back.new.rounds c.jump_back.new.trail 0 joined c.jump_back.ensures.trail
+    (c.jump_back.ensures.attached c.self.inside.pool joined.attached quiet)

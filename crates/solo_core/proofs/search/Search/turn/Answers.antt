@@ -1,0 +1,10 @@
+use Rattle.std.proofs.Common.{sym, ◌∙◌}
+use Rattle.solo_core.proofs.Searched.{propagated_ready, conflict_stands}
+use Rattle.solo_core.proofs.search.Search.turn.Goals as goal
+
+-- the search is ready still, and the conflict stands
+pub teach-requires-clause-ready : goal.teach-requires-clause-ready
+teach-requires-clause-ready c = propagated_ready c.args.self.now c.propagate.new.self c.requires c.propagate.ensures.state c.propagate.ensures.joined
+
+pub teach-requires-clause-conflict : goal.teach-requires-clause-conflict
+teach-requires-clause-conflict c = conflict_stands c.args.self.now c.propagate.new.self c.in-Conflict.conflict c.requires c.propagate.ensures.state (sym c.in-Conflict.is ∙ c.propagate.ensures.found)

@@ -1,0 +1,90 @@
+ghost use Rattle.std.specs.Prelude.{◌≡◌, ◌≤◌, [], map, length, IfOk, OnOk, None};
+ghost use Rattle.lit_base.specs.Cnf.{IsFormula};
+ghost use Rattle.lit_base.specs.Rounds.{original, named_from};
+ghost use Rattle.lit_base.specs.Named.{lits_at};
+ghost use Rattle.lit_base.specs.Held.{clauses_of, unused, with_clause};
+ghost use Rattle.round_prop.specs.Attached.{held_names};
+ghost use Rattle.solo_core.specs.State.{first_state};
+ghost use Rattle.solo_core.specs.SearchState.{IsAttachedTo, IsJoined};
+
+use crate::search::Search;
+use clause_pool::Pool;
+use lit_base::{Clause, Formula, List, Lit, Name, NoMemory};
+use round_prop::Rounds;
+use std::alloc::Global;
+use trail_book::Trail;
+
+/// The search that a core begins with: it holds the clauses of the formula, and its trail is empty.
+pub(crate) fn first_search(
+    alloc: Global,
+    formula: &Formula,
+    core: u32,
+    limit: u32,
+) -> Result<Search, NoMemory>
+    ensures value { IfOk result (λ search. search ≡ record {
+      frame = record { variables = formula.now.variables; core = core; limit = limit };
+      state = first_state formula.now;
+      attached = held_names (first_state formula.now).clauses;
+    }) }
+    ensures joined { IfOk result (λ search. IsJoined search) }
+    ensures formula { IsFormula formula.now }
+{
+    let variables = formula.variables();
+    let trail = Trail::with_room(alloc, variables)?;
+    let mut pool = Pool::new(alloc);
+    let mut rounds = Rounds::make(alloc, variables)?;
+    hold_originals(&mut pool, &mut rounds, &trail, formula.clauses())?;
+    Ok(Search {
+        variables,
+        core,
+        limit,
+        period: 1,
+        conflicts: 0,
+        period_conflicts: 0,
+        pool,
+        trail,
+        rounds,
+        lemmas: List::new(alloc),
+    })
+}
+
+/// Holds the clauses, under the names of originals from 0 on, and attaches them.
+fn hold_originals(
+    pool: &mut Pool,
+    rounds: &mut Rounds,
+    trail: &Trail,
+    clauses: &[Clause],
+) -> Result<(), NoMemory>
+    requires few { length clauses.now ≤ 4000000 }
+    requires empty { pool.old ≡ [] }
+    requires attached { IsAttachedTo rounds.old pool.old trail.now.entries }
+    ensures held { OnOk result (pool.new ≡ map unused (named_from 0 clauses.now)) }
+    ensures attached { OnOk result (IsAttachedTo rounds.new pool.new trail.now.entries) }
+{
+    for (index, clause) in clauses.iter().enumerate() {
+        hold_original(pool, rounds, trail, clause.lits(), index as u32)?;
+    }
+    Ok(())
+}
+
+/// Holds a clause under the name of the original of this index, and attaches it.
+fn hold_original(
+    pool: &mut Pool,
+    rounds: &mut Rounds,
+    trail: &Trail,
+    lits: &[Lit],
+    index: u32,
+) -> Result<(), NoMemory>
+    requires new { lits_at (clauses_of pool.old) (original index) ≡ None }
+    requires attached { IsAttachedTo rounds.old pool.old trail.now.entries }
+    ensures held { OnOk result (pool.new ≡ with_clause (unused (record { name = original index; lits = lits.now })) pool.old) }
+    ensures attached { OnOk result (IsAttachedTo rounds.new pool.new trail.now.entries) }
+{
+    let name = Name {
+        period: 0,
+        core: 0,
+        index,
+    };
+    pool.add(name, lits)?;
+    rounds.attach(pool, trail, name)
+}

@@ -1,0 +1,140 @@
+//! What a conflict teaches: its lemma is recorded, and above level 0 it is held and attached after the jump back.
+ghost use Rattle.std.specs.Prelude.{◌≡◌, ◌<◌, ◌≤◌, ◌^◌, IfOk, OnOk, IsSome, List, None, length};
+ghost use Rattle.std.specs.List.{AllByRecursion, IsDistinct};
+ghost use Rattle.lit_base.specs.Trail.{level_now};
+ghost use Rattle.lit_base.specs.Named.{lits_at, same_name};
+ghost use Rattle.lit_base.specs.Held.{HeldClause, clauses_of, with_clause, with_uses};
+ghost use Rattle.lit_base.specs.Fits.{IsConflict};
+ghost use Rattle.lit_base.specs.Quiet.{AreQuietBelow};
+ghost use Rattle.lit_base.specs.Analysis.{lesson_of};
+ghost use Rattle.trail_book.specs.TrailState.{jumped};
+ghost use Rattle.solo_core.specs.State.{lemma_name};
+ghost use Rattle.solo_core.specs.Turn.{look_of, taught, refuted, learnt, with_lemma};
+ghost use Rattle.solo_core.specs.SearchState.{IsAttachedTo, AreFewUses, IsJoined, IsReady};
+ghost use Rattle.solo_core.specs.SearchSteps.{search_at, IsLesson};
+
+use crate::lemma::Lemma;
+use crate::search::Search;
+use crate::turn::TurnEnd;
+use crate::uses::count_uses;
+use clause_pool::Pool;
+use first_uip::analyse;
+use lit_base::{Lesson, Name, NoMemory};
+use round_prop::Rounds;
+use std::alloc::Global;
+use trail_book::Trail;
+
+impl Search {
+    /// Learns from a conflict of propagation: at level 0 it refutes, and above the core jumps back.
+    ///
+    /// After `NoMemory` the search may be in any state.
+    pub(crate) fn teach(&mut self, alloc: Global, conflict: Name) -> Result<TurnEnd, NoMemory>
+        requires ready { IsReady self.old }
+        requires conflict { IsConflict (look_of self.old.state) self.old.state.trail conflict }
+        ensures state { OnOk result (self.new ≡ search_at self.old.frame (taught self.old.frame self.old.state (lesson_of (look_of self.old.state) self.old.state.trail conflict)).state) }
+        ensures end { IfOk result (λ end. end ≡ (taught self.old.frame self.old.state (lesson_of (look_of self.old.state) self.old.state.trail conflict)).came_to) }
+        ensures joined { OnOk result (IsJoined self.new) }
+    {
+        let lesson = analyse(alloc, &self.pool, &self.trail, conflict)?;
+        if self.trail.level() == 0 {
+            self.refute(lesson)?;
+            Ok(TurnEnd::Refuted)
+        } else {
+            self.learn(lesson)?;
+            Ok(TurnEnd::Learnt)
+        }
+    }
+
+    /// Records the lemma of a conflict at level 0, which isn't held.
+    fn refute(&mut self, lesson: Lesson) -> Result<(), NoMemory>
+        requires joined { IsJoined self.old }
+        requires left { self.old.state.conflicts < self.old.frame.limit }
+        ensures state { OnOk result (self.new ≡ record self.old { state = refuted self.old.frame lesson self.old.state }) }
+        ensures joined { OnOk result (IsJoined self.new) }
+    {
+        let lemma = Lemma {
+            name: self.next_name(),
+            lits: lesson.lits,
+            hints: lesson.hints,
+        };
+        self.record_lemma(lemma)
+    }
+
+    /// Jumps back, and holds, attaches and records the lemma of a conflict above level 0.
+    fn learn(&mut self, lesson: Lesson) -> Result<(), NoMemory>
+        requires ready { IsReady self.old }
+        requires lesson { IsLesson self.old.state lesson }
+        requires above { 0 < level_now self.old.state.trail }
+        ensures state { OnOk result (self.new ≡ search_at self.old.frame (learnt self.old.frame lesson self.old.state)) }
+        ensures joined { OnOk result (IsJoined self.new) }
+    {
+        let lemma = Lemma {
+            name: self.next_name(),
+            lits: lesson.lits,
+            hints: lesson.hints,
+        };
+        jump_back(&mut self.trail, &mut self.rounds, lesson.back);
+        hold_lemma(&mut self.pool, &mut self.rounds, &self.trail, &lemma)?;
+        self.record_lemma(lemma)?;
+        Ok(())
+    }
+
+    /// The name of the next lemma of the period. Conflicts are counted by 32 bits, and lemmas are no more than these.
+    fn next_name(&self) -> Name
+        requires { IsJoined self.now }
+        ensures name { result ≡ lemma_name self.now.state.period self.now.frame.core (length self.now.state.lemmas) }
+        ensures few { self.now.state.conflicts < 2 ^ 32 }
+    {
+        let _conflicts = self.conflicts;
+        Name {
+            period: self.period,
+            core: self.core,
+            index: self.lemmas.len() as u32,
+        }
+    }
+
+    /// Counts a conflict, whose lemma is the next of the period.
+    fn record_lemma(&mut self, lemma: Lemma) -> Result<(), NoMemory>
+        requires left { self.old.state.conflicts < self.old.frame.limit }
+        requires in_period { self.old.state.period_conflicts ≤ self.old.state.conflicts }
+        ensures { OnOk result (self.new ≡ record self.old { state = with_lemma lemma self.old.state }) }
+    {
+        self.lemmas.push(lemma)?;
+        self.conflicts += 1;
+        self.period_conflicts += 1;
+        Ok(())
+    }
+}
+
+/// Cuts the trail to a level, at which no clause was left unit or falsified, and tells propagation.
+pub(crate) fn jump_back(trail: &mut Trail, rounds: &mut Rounds, level: u32)
+    requires { level ≤ level_now trail.old.entries }
+    ensures trail { trail.new ≡ jumped level trail.old }
+    ensures value { rounds.new ≡ rounds.old }
+    ensures attached { (held : List HeldClause) → IsAttachedTo rounds.old held trail.old.entries →
+        AreQuietBelow trail.old.entries (clauses_of held) → IsAttachedTo rounds.new held trail.new.entries }
+{
+    trail.jump(level);
+    rounds.jumped(trail);
+}
+
+/// Holds a lemma and attaches it, and counts a use of each of its hints.
+fn hold_lemma(
+    pool: &mut Pool,
+    rounds: &mut Rounds,
+    trail: &Trail,
+    lemma: &Lemma,
+) -> Result<(), NoMemory>
+    requires free { lits_at (clauses_of pool.old) lemma.now.name ≡ None }
+    requires held { AllByRecursion (λ hint. IsSome (lits_at (clauses_of pool.old) hint)) lemma.now.hints }
+    requires distinct { IsDistinct same_name lemma.now.hints }
+    requires few { AreFewUses (2 ^ 32) pool.old }
+    requires attached { IsAttachedTo rounds.old pool.old trail.now.entries }
+    ensures pool { OnOk result (pool.new ≡ with_uses lemma.now.hints (with_clause (record { name = lemma.now.name; lits = lemma.now.lits; uses = 0 }) pool.old)) }
+    ensures attached { OnOk result (IsAttachedTo rounds.new pool.new trail.now.entries) }
+{
+    pool.add(lemma.name, lemma.lits.as_slice())?;
+    rounds.attach(pool, trail, lemma.name)?;
+    count_uses(pool, lemma.hints.as_slice());
+    Ok(())
+}

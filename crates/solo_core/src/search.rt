@@ -1,0 +1,226 @@
+ghost use Rattle.std.specs.Prelude.{◌≡◌, ◌≢◌, ◌<◌, ◌≤◌, ◌+◌, IfOk, IfSome, OnOk, Option, Some, None, List, true};
+ghost use Rattle.lit_base.specs.Trail.{is_free, first_free, value_or_false};
+ghost use Rattle.lit_base.specs.Backjump.{last_value};
+ghost use Rattle.lit_base.specs.Held.{clauses_of};
+ghost use Rattle.lit_base.specs.Quiet.{AreQuietBelow};
+ghost use Rattle.lit_base.specs.Rounds.{NamedClause};
+ghost use Rattle.round_prop.specs.Found.{found_of};
+ghost use Rattle.solo_core.specs.Turn.{propagated, picked, chosen, turn, jumped};
+ghost use Rattle.solo_core.specs.Changes.{after_propagation};
+ghost use Rattle.solo_core.specs.Stretch.{search, searches, stretch};
+ghost use Rattle.solo_core.specs.SearchState.{SearchState, IsJoined, IsReady};
+ghost use Rattle.solo_core.specs.SearchSteps.{search_at, FollowsSearch};
+ghost use Rattle.solo_core.specs.Soundness.{IsSound};
+ghost use Rattle.solo_core.specs.declared.turn.TurnEnd.TheVariants.{Refuted};
+
+use crate::learning::jump_back;
+use crate::lemma::Lemma;
+use crate::propagation::propagate;
+use crate::sheet::End;
+use crate::turn::TurnEnd;
+use clause_pool::Pool;
+use lit_base::{List, Lit, NoMemory};
+use round_prop::{Found, Rounds};
+use std::alloc::Global;
+use std::marker::Model;
+use trail_book::Trail;
+
+/// What a core searches with: the clauses that it holds, the trail, the clauses that propagation goes over, and the
+/// lemmas of the period.
+#[derive(Drop)]
+pub(crate) struct Search {
+    pub(crate) variables: u32,
+    pub(crate) core: u32,
+    pub(crate) limit: u32,
+    pub(crate) period: u32,
+    pub(crate) conflicts: u32,
+    pub(crate) period_conflicts: u32,
+    pub(crate) pool: Pool,
+    pub(crate) trail: Trail,
+    pub(crate) rounds: Rounds,
+    pub(crate) lemmas: List<Lemma>,
+}
+
+impl Model for Search {
+    ghost use Rattle.solo_core.specs.SearchState.{SearchState};
+
+    ghost Value = { SearchState };
+
+    ghost view = { λ s. record {
+      frame = record { variables = s.variables; core = s.core; limit = s.limit };
+      state = record {
+        period = s.period;
+        clauses = s.pool;
+        trail = s.trail.entries;
+        saved = s.trail.saved;
+        conflicts = s.conflicts;
+        period_conflicts = s.period_conflicts;
+        lemmas = s.lemmas;
+      };
+      attached = s.rounds;
+    } };
+}
+
+impl Search {
+    /// Propagates over the held clauses.
+    fn propagate(&mut self) -> Found
+        requires { IsReady self.old }
+        ensures state { self.new ≡ record self.old { state = after_propagation self.old.frame self.old.state } }
+        ensures found { result ≡ found_of (propagated self.old.frame self.old.state).conflict }
+        ensures joined { IsJoined self.new }
+    {
+        propagate(&mut self.rounds, &self.pool, &mut self.trail)
+    }
+
+    /// The literal to decide: the free variable of lowest number, if one is free, with its last value.
+    fn picked(&self) -> Option<Lit>
+        requires { IsJoined self.now }
+        ensures literal { result ≡ picked self.now.frame self.now.state }
+        ensures free { IfSome result (λ l. is_free self.now.state.trail l.variable ≡ true) }
+        ensures within { IfSome result (λ l. l.variable ≤ self.now.frame.variables) }
+    {
+        let var = first_free(&self.trail, self.variables)?;
+        Some(last_literal(&self.trail, var))
+    }
+
+    /// Decides the literal that is picked; where no variable is free the trail is a model.
+    fn choose(&mut self) -> TurnEnd
+        requires { IsJoined self.old }
+        ensures state { self.new ≡ record self.old { state = (chosen self.old.state (picked self.old.frame self.old.state)).state } }
+        ensures end { result ≡ (chosen self.old.state (picked self.old.frame self.old.state)).came_to }
+        ensures joined { IsJoined self.new }
+    {
+        match self.picked() {
+            Some(lit) => {
+                self.trail.decide(lit);
+                TurnEnd::Decided
+            }
+            None => TurnEnd::Modelled,
+        }
+    }
+
+    /// One turn: propagation, and then a decision, or what its conflict teaches.
+    ///
+    /// After `NoMemory` the search may be in any state.
+    fn turn(&mut self, alloc: Global) -> Result<TurnEnd, NoMemory>
+        requires { IsReady self.old }
+        ensures state { OnOk result (self.new ≡ search_at self.old.frame (turn self.old.frame self.old.state).state) }
+        ensures end { IfOk result (λ end. end ≡ (turn self.old.frame self.old.state).came_to) }
+        ensures joined { OnOk result (IsJoined self.new) }
+    {
+        match self.propagate() {
+            Found::Fix => Ok(self.choose()),
+            Found::Conflict(conflict) => self.teach(alloc, conflict),
+        }
+    }
+
+    /// Turns up to the first that comes to no decision; one turn more than there are variables always suffices.
+    ///
+    /// After `NoMemory` the search may be in any state.
+    fn search(&mut self, alloc: Global) -> Result<TurnEnd, NoMemory>
+        requires { IsReady self.old }
+        ensures state { OnOk result (self.new ≡ search_at self.old.frame (search (self.old.frame.variables + 1) self.old.frame self.old.state).state) }
+        ensures end { IfOk result (λ end. end ≡ (search (self.old.frame.variables + 1) self.old.frame self.old.state).came_to) }
+        ensures joined { OnOk result (IsJoined self.new) }
+    {
+        let most = self.variables + 1;
+        for _ in 0..most {
+            match self.turn(alloc)? {
+                TurnEnd::Decided => {}
+                end => return Ok(end),
+            }
+        }
+        Ok(TurnEnd::Decided)
+    }
+
+    /// Searches for each conflict of the quota, up to an answer or the limit. Without an answer it ends at level 0.
+    ///
+    /// After `NoMemory` the search may be in any state.
+    pub(crate) fn stretch(&mut self, alloc: Global, quota: u32) -> Result<End, NoMemory>
+        requires sound { (base : List NamedClause) × IsSound base self.old.frame self.old.state }
+        requires joined { IsJoined self.old }
+        ensures state { OnOk result (self.new ≡ search_at self.old.frame (stretch self.old.frame quota self.old.state).state) }
+        ensures end { IfOk result (λ ended. ended ≡ (stretch self.old.frame quota self.old.state).ended) }
+        ensures joined { OnOk result (IsJoined self.new) }
+    {
+        if self.conflicts == self.limit {
+            return Ok(End::Spent);
+        }
+        self.searches(alloc, quota)
+    }
+
+    /// A search for each conflict of the quota, below the limit.
+    fn searches(&mut self, alloc: Global, quota: u32) -> Result<End, NoMemory>
+        requires { IsReady self.old }
+        ensures state { OnOk result (self.new ≡ search_at self.old.frame (searches quota self.old.frame self.old.state).state) }
+        ensures end { IfOk result (λ ended. ended ≡ (searches quota self.old.frame self.old.state).ended) }
+        ensures joined { OnOk result (IsJoined self.new) }
+    {
+        for _ in 0..quota {
+            let end = self.search(alloc)?;
+            if let Some(ended) = self.after_search(end) {
+                return Ok(ended);
+            }
+        }
+        self.jump_to_root();
+        Ok(End::Quota)
+    }
+
+    /// How a search ends the stretch; None where a lemma was learnt and the limit isn't reached.
+    fn after_search(&mut self, end: TurnEnd) -> Option<End>
+        requires joined { IsJoined self.old }
+        requires quiet { end ≢ Refuted → AreQuietBelow self.old.state.trail (clauses_of self.old.state.clauses) }
+        ensures follows { FollowsSearch self.old.frame self.old.state end self.new result }
+        ensures joined { IsJoined self.new }
+    {
+        match end {
+            TurnEnd::Modelled => Some(End::Sat),
+            TurnEnd::Refuted => Some(End::Unsat),
+            TurnEnd::Decided => {
+                self.jump_to_root();
+                Some(End::Spent)
+            }
+            TurnEnd::Learnt => {
+                if self.conflicts < self.limit {
+                    return None;
+                }
+                self.jump_to_root();
+                Some(End::Spent)
+            }
+        }
+    }
+
+    /// Jumps back to level 0.
+    fn jump_to_root(&mut self)
+        requires joined { IsJoined self.old }
+        requires quiet { AreQuietBelow self.old.state.trail (clauses_of self.old.state.clauses) }
+        ensures state { self.new ≡ record self.old { state = jumped 0 self.old.state } }
+        ensures joined { IsJoined self.new }
+    {
+        jump_back(&mut self.trail, &mut self.rounds, 0);
+    }
+}
+
+/// The first variable, from 1 on, that is free.
+fn first_free(trail: &Trail, variables: u32) -> Option<u32>
+    ensures first { result ≡ first_free variables 1 trail.now.entries }
+    ensures free { IfSome result (λ var. is_free trail.now.entries var ≡ true) }
+    ensures low { IfSome result (λ var. 1 ≤ var) }
+    ensures high { IfSome result (λ var. var ≤ variables) }
+{
+    for index in 0..variables {
+        if trail.place(index + 1).is_none() {
+            return Some(index + 1);
+        }
+    }
+    None
+}
+
+/// The literal of a variable with the value that it last had, and negated where it never had one.
+fn last_literal(trail: &Trail, var: u32) -> Lit
+    requires low { 1 ≤ var }
+    requires high { var ≤ 1000000 }
+    ensures { result ≡ record { variable = var; positive = value_or_false (last_value trail.now.entries trail.now.saved var) } }
+{
+    Lit::of(var, trail.last(var).unwrap_or(false))
+}

@@ -1,0 +1,131 @@
+ghost use Rattle.std.specs.Prelude.{◌≡◌, ◌≤◌, ◌<◌, true, false, Some, None, IsSome, IsErr, IfOk, OnOk, OnErr};
+ghost use Rattle.lit_base.specs.Held.{volume_of};
+ghost use Rattle.solo_core.specs.Stretch.{stretch};
+ghost use Rattle.solo_core.specs.Sheet.{sheet_at};
+ghost use Rattle.solo_core.specs.CoreValue.{first_core, after_stretch, after_sheet};
+
+use crate::first::first_search;
+use crate::handing::{mail_of, model_of};
+use crate::search::Search;
+use crate::sheet::{End, Settings, Sheet};
+use lit_base::{Formula, NoMemory};
+use std::alloc::Global;
+use std::marker::Model;
+
+/// One core: a search with clause learning, one stretch a period.
+///
+/// After a refusal of memory the core is broken: each later call that takes memory answers `NoMemory`.
+#[derive(Drop)]
+pub struct Core {
+    search: Search,
+    ended: Option<End>,
+    is_handed: bool,
+    is_broken: bool,
+    alloc: Global,
+}
+
+impl Model for Core {
+    ghost use Rattle.std.specs.Prelude.{◌≡◌, None, false};
+    ghost use Rattle.solo_core.specs.CoreValue.{CoreValue, IsSearchable};
+
+    ghost Value = { CoreValue };
+
+    ghost view = { λ c. record {
+      frame = c.search.frame;
+      state = c.search.state;
+      ended = c.ended;
+      is_handed = c.is_handed;
+      is_broken = c.is_broken;
+    } };
+
+    ghost invariant = { λ c. c.is_broken ≡ false → c.ended ≡ None → IsSearchable c.search };
+}
+
+impl Core {
+    /// The core of this number at the start of period 1, over the clauses of the formula.
+    pub fn make(
+        alloc: Global,
+        formula: &Formula,
+        settings: &Settings,
+        core: u32,
+    ) -> Result<Core, NoMemory>
+        requires { core < settings.now.cores }
+        ensures { IfOk result (λ made. made ≡ first_core formula.now settings.now core) }
+    {
+        let search = first_search(alloc, formula, core, settings.limit)?;
+        Ok(Core {
+            search,
+            ended: None,
+            is_handed: false,
+            is_broken: false,
+            alloc,
+        })
+    }
+
+    /// The stretch of this period: at most `quota` conflicts. After `NoMemory` the core is broken.
+    pub fn stretch(&mut self, quota: u32) -> Result<End, NoMemory>
+        requires some { 1 ≤ quota }
+        requires open { self.old.is_broken ≡ false → self.old.ended ≡ None }
+        ensures state { OnOk result (self.new ≡ after_stretch quota self.old) }
+        ensures ended { IfOk result (λ end. end ≡ (stretch self.old.frame quota self.old.state).ended) }
+        ensures breaks { OnErr result (self.new.is_broken ≡ true) }
+        ensures broken { self.old.is_broken ≡ true → IsErr result }
+    {
+        if self.is_broken {
+            return Err(NoMemory);
+        }
+        self.is_broken = true;
+        let end = self.search.stretch(self.alloc, quota)?;
+        self.ended = Some(end);
+        self.is_broken = false;
+        Ok(end)
+    }
+
+    /// The period that the core is in, from 1.
+    pub fn period(&self) -> u32
+        ensures { result ≡ self.now.state.period }
+    {
+        self.search.period
+    }
+
+    /// The conflicts of the core in all periods so far.
+    pub fn conflicts(&self) -> u32
+        ensures { result ≡ self.now.state.conflicts }
+    {
+        self.search.conflicts
+    }
+
+    /// The number of held clauses that are no originals.
+    pub fn volume(&self) -> u64
+        ensures { result ≡ volume_of self.now.state.clauses }
+    {
+        self.search.pool.volume()
+    }
+
+    /// What the core leaves of the period whose stretch was made. The lemmas are moved out. After
+    /// `NoMemory` the core is broken.
+    pub fn sheet(&mut self) -> Result<Sheet, NoMemory>
+        requires ended { self.old.is_broken ≡ false → IsSome self.old.ended }
+        requires once { self.old.is_broken ≡ false → self.old.is_handed ≡ false }
+        ensures sheet { IfOk result (λ sheet. Some sheet ≡ sheet_at self.old.frame self.old.state self.old.ended) }
+        ensures state { OnOk result (self.new ≡ after_sheet self.old) }
+        ensures breaks { OnErr result (self.new.is_broken ≡ true) }
+        ensures broken { self.old.is_broken ≡ true → IsErr result }
+    {
+        if self.is_broken {
+            return Err(NoMemory);
+        }
+        self.is_broken = true;
+        let end = self.ended.unwrap();
+        let model = model_of(self.alloc, &self.search, end)?;
+        let mail = mail_of(self.alloc, &self.search, end);
+        let lemmas = self.search.take_lemmas(self.alloc);
+        self.is_handed = true;
+        self.is_broken = false;
+        Ok(Sheet {
+            mail,
+            lemmas,
+            model,
+        })
+    }
+}
