@@ -1,0 +1,119 @@
+-- The best of the variables up to one of them.
+use Rattle.std.proofs.Common.{◌≡◌, ℕ, zero, suc, ◌≤◌, Bool, true, false, cond, not, ◌&&◌, List, length, [], ◌∷◌, refl, ap, ◌∙◌, sym, subst, arith, ◌⊎◌, inl, inr}
+use Rattle.std.specs.Prelude.{Option, Some, None, is_none, ◌==◌, nat_lt}
+use Rattle.std.proofs.lemmas.Bool.{and_from, ltb-true, ltb-false}
+use Rattle.lit_base.specs.Trail.{sign_of, is_free, is_full}
+use Rattle.lit_base.specs.declared.trail.Entry.{Entry}
+use Rattle.trail_book.specs.TrailState.{place_of}
+use Rattle.var_order.specs.Order.{activity_at, beats, best_of, pick_of}
+use Rattle.var_order.specs.Laws.{IsChoice, IsBestChoice}
+
+-- a variable is free where it has no place
+pub place_free : (trail : List Entry) (v : ℕ) → is_none (place_of trail v) ≡ is_free trail v
+place_free [] v = refl
+place_free (e ∷ older) v = by_test (e.lit.variable == v) (place_free older v)
+  where
+    by_test : (b : Bool) → is_none (place_of older v) ≡ is_free older v → is_none (cond b (Some (length older)) (place_of older v)) ≡ is_none (cond b (Some e.lit.positive) (sign_of older v))
+    by_test true later = refl
+    by_test false later = later
+
+-- what holds of the variables up to n and of the next one holds of those up to the next one
+up_to_next : (n : ℕ) (P : ℕ → Type 0) → P (suc n) → ((w : ℕ) → 1 ≤ w → w ≤ n → P w) → (w : ℕ) → 1 ≤ w → w ≤ suc n → P w
+up_to_next n P next below w low high = by_place (let split : (suc n ≡ w) ⊎ (w ≤ n) = grind arith in split)
+  where
+    by_place : (suc n ≡ w) ⊎ (w ≤ n) → P w
+    by_place (inl is) = subst P is next
+    by_place (inr lower) = below w low lower
+
+-- a free variable w is not preferred to v: its activity isn't greater, and where it is the same, its number isn't lower
+Yields : List ℕ → List Entry → ℕ → ℕ → Type 0
+Yields activities trail v w = is_free trail w ≡ true → (activity_at activities w ≤ activity_at activities v) × (activity_at activities w ≡ activity_at activities v → v ≤ w)
+
+-- v is free and the best of the variables up to n
+record IsBestUpTo (n : ℕ) (activities : List ℕ) (trail : List Entry) (v : ℕ) : Type 0 where
+  low : 1 ≤ v
+  high : v ≤ n
+  free : is_free trail v ≡ true
+  others : (w : ℕ) → 1 ≤ w → w ≤ n → Yields activities trail v w
+
+BestUpTo : ℕ → List ℕ → List Entry → Option ℕ → Type 0
+BestUpTo n activities trail None = (w : ℕ) → 1 ≤ w → w ≤ n → is_free trail w ≡ false
+BestUpTo n activities trail (Some v) = IsBestUpTo n activities trail v
+
+-- the first free variable
+first_best : (n : ℕ) (activities : List ℕ) (trail : List Entry) (b : Bool) → is_free trail (suc n) ≡ b → BestUpTo n activities trail None → BestUpTo (suc n) activities trail (cond (b && true) (Some (suc n)) None)
+unfolding BestUpTo Yields
+first_best n activities trail true free none = record {
+  low = omega arith;
+  high = omega arith;
+  free = free;
+  others = up_to_next n (Yields activities trail (suc n)) (λ own. (omega arith, λ same. omega arith)) (λ w low high. λ own. absurd (let h : ⊥ = cc (none w low high, own) in h));
+}
+first_best n activities trail false taken none = up_to_next n (λ w. is_free trail w ≡ false) taken none
+
+-- a variable beats the best so far, or doesn't
+next_best : (n : ℕ) (activities : List ℕ) (trail : List Entry) (v : ℕ) (b t : Bool) → is_free trail (suc n) ≡ b → nat_lt (activity_at activities v) (activity_at activities (suc n)) ≡ t → IsBestUpTo n activities trail v →
+    BestUpTo (suc n) activities trail (cond (b && t) (Some (suc n)) (Some v))
+unfolding BestUpTo Yields
+next_best n activities trail v true true free more best =
+    let above = ltb-true _ _ more in
+    record {
+      low = omega arith;
+      high = omega arith;
+      free = free;
+      others = up_to_next n (Yields activities trail (suc n)) (λ own. (omega arith, λ same. omega arith))
+          (λ w low high own. let before = best.others w low high own in (omega (arith, before.0, above), λ same. absurd (omega (arith, before.0, above, same))));
+    }
+next_best n activities trail v true false free more best =
+    let above = ltb-false _ _ more in
+    record {
+      low = best.low;
+      high = omega (arith, best.high);
+      free = best.free;
+      others = up_to_next n (Yields activities trail v) (λ own. (above, λ same. omega (arith, best.high))) best.others;
+    }
+next_best n activities trail v false t taken more best = record {
+  low = best.low;
+  high = omega (arith, best.high);
+  free = best.free;
+  others = up_to_next n (Yields activities trail v) (λ own. absurd (let h : ⊥ = cc in h)) best.others;
+}
+
+with_next : (n : ℕ) (activities : List ℕ) (trail : List Entry) (best : Option ℕ) → BestUpTo n activities trail best →
+    BestUpTo (suc n) activities trail (cond (is_free trail (suc n) && beats activities best (suc n)) (Some (suc n)) best)
+unfolding BestUpTo
+with_next n activities trail None none = first_best n activities trail (is_free trail (suc n)) refl none
+with_next n activities trail (Some v) best = next_best n activities trail v (is_free trail (suc n)) (nat_lt (activity_at activities v) (activity_at activities (suc n))) refl refl best
+
+best_up_to : (n : ℕ) (activities : List ℕ) (trail : List Entry) → BestUpTo n activities trail (best_of n activities trail)
+unfolding BestUpTo
+best_up_to zero activities trail = λ w low high. absurd (omega arith)
+best_up_to (suc n) activities trail = with_next n activities trail (best_of n activities trail) (best_up_to n activities trail)
+
+-- the variable that is picked is the best choice
+pub pick_is_best : (activities : List ℕ) (trail : List Entry) (v : ℕ) → pick_of activities trail ≡ Some v → IsBestChoice activities trail v
+unfolding BestUpTo Yields
+pick_is_best activities trail v is =
+    let best : IsBestUpTo (length activities) activities trail v = subst (BestUpTo (length activities) activities trail) is (best_up_to (length activities) activities trail) in
+    record {
+      choice = record { low = best.low; high = best.high; free = best.free };
+      greatest = λ w other. (best.others w other.low other.high other.free).0;
+      lowest = λ w other. (best.others w other.low other.high other.free).1;
+    }
+
+full_from_none_free : (n : ℕ) (trail : List Entry) → ((v : ℕ) → 1 ≤ v → v ≤ n → is_free trail v ≡ false) → is_full n trail ≡ true
+full_from_none_free zero trail taken = refl
+full_from_none_free (suc n) trail taken =
+    and_from (not (is_free trail (suc n))) (is_full n trail) (ap not (taken (suc n) (omega arith) (omega arith)))
+    (full_from_none_free n trail (λ v low high. taken v low (omega arith)))
+
+-- where none is picked, the trail is full
+pub none_where_full : (activities : List ℕ) (trail : List Entry) → pick_of activities trail ≡ None → is_full (length activities) trail ≡ true
+unfolding BestUpTo
+none_where_full activities trail is =
+    full_from_none_free (length activities) trail (subst (BestUpTo (length activities) activities trail) is (best_up_to (length activities) activities trail))
+
+-- a variable that is picked is within and free
+pub picked_choice : (activities same : List ℕ) (trail : List Entry) (picked : Option ℕ) (v : ℕ) → same ≡ activities → picked ≡ pick_of same trail → picked ≡ Some v → IsChoice activities trail v
+picked_choice activities same trail picked v same_is picked_is is =
+    (pick_is_best activities trail v (ap (λ a. pick_of a trail) (sym same_is) ∙ sym picked_is ∙ is)).choice

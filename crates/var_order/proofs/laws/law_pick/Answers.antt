@@ -1,0 +1,8 @@
+use Rattle.var_order.proofs.Best.{pick_is_best, none_where_full}
+use Rattle.var_order.proofs.laws.law_pick.Goals as goal
+
+pub returns-clause-best : goal.returns-clause-best
+returns-clause-best c = pick_is_best
+
+pub returns-clause-none : goal.returns-clause-none
+returns-clause-none c = none_where_full

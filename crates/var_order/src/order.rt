@@ -1,0 +1,158 @@
+ghost use Rattle.std.specs.Prelude.{◌≡◌, ℕ, ◌+◌, ◌≤◌, ◌<◌, ◌^◌, ◌/◌, ◌&&◌, ◌==◌, not, true, false, Option, Some, None, length, map, replicate, IfOk, IfSome, ◌≢◌};
+ghost use Rattle.lit_base.specs.Trail.{is_free};
+ghost use Rattle.var_order.specs.Order.{first_order, activity_at, activity_of, is_present, bumped, halved, put_back, taken_out, beats, pick_of};
+ghost use Rattle.var_order.specs.Laws.{IsChoice};
+
+use lit_base::{List, NoMemory};
+use std::alloc::Global;
+use std::marker::Model;
+use trail_book::Trail;
+
+/// The variables by activity, from which a core picks the one to decide
+/// (Moskewicz, Madigan, Zhao, Zhang and Malik 2001).
+///
+/// Memory is taken by `make` alone. A pick and a halving take a step for each variable, every other call a constant
+/// time.
+///
+/// `activities` and `present` are by variable from 1 on.
+#[derive(Debug, Drop)]
+pub struct Order {
+    activities: List<u64>,
+    present: Vec<bool>,
+}
+
+impl Model for Order {
+    ghost use Rattle.var_order.specs.Order.{OrderState, IsOrder};
+
+    ghost Value = { OrderState };
+
+    ghost view = { λ o. record { activities = o.activities; present = o.present.items } };
+
+    ghost invariant = { λ o. IsOrder (record { activities = o.activities; present = o.present.items }) };
+}
+
+impl Order {
+    /// The order of variables with these activities, at most 1,000,000; `NoMemory` where there is no room.
+    pub fn make(alloc: Global, start: List<u64>) -> Result<Order, NoMemory>
+        requires { length start ≤ 1000000 }
+        ensures { IfOk result (λ order. order ≡ first_order start) }
+    {
+        let present = all_present(alloc, start.len())?;
+        Ok(Order {
+            activities: start,
+            present,
+        })
+    }
+
+    /// Raises the activity of a variable, from 1 on.
+    pub fn bump(&mut self, var: u32, weight: u64)
+        requires some { 1 ≤ var }
+        requires within { var ≤ length self.old.activities }
+        requires fits { activity_of self.old var + weight < 2 ^ 64 }
+        ensures { self.new ≡ bumped var weight self.old }
+    {
+        let raised = activity_at(self.activities.as_slice(), var) + weight;
+        self.activities.set(var as usize - 1, raised);
+    }
+
+    /// Halves each activity, rounded down.
+    pub fn halve(&mut self)
+        ensures { self.new ≡ halved self.old }
+    {
+        halve_all(&mut self.activities);
+    }
+
+    /// The activity of a variable, from 1 on.
+    pub fn activity(&self, var: u32) -> u64
+        requires some { 1 ≤ var }
+        requires within { var ≤ length self.now.activities }
+        ensures { result ≡ activity_of self.now var }
+    {
+        activity_at(self.activities.as_slice(), var)
+    }
+
+    /// Picks the variable that is free on the trail, of the greatest activity and among these of the lowest number,
+    /// and takes it out; None where no variable is free.
+    pub fn pick(&mut self, trail: &Trail) -> Option<u32>
+        requires variables { length self.old.activities ≡ length trail.now.saved }
+        requires present { (v : ℕ) → 1 ≤ v → v ≤ length self.old.activities → is_free trail.now.entries v ≡ true → is_present self.old v ≡ true }
+        ensures value { result ≡ pick_of self.old.activities trail.now.entries }
+        ensures choice { IfSome result (λ v. IsChoice self.old.activities trail.now.entries v) }
+        ensures activities { self.new.activities ≡ self.old.activities }
+        ensures taken { self.new ≡ taken_out result self.old }
+        ensures others { (v : ℕ) → 1 ≤ v → is_free trail.now.entries v ≡ true → result ≢ Some v → is_present self.new v ≡ is_present self.old v }
+    {
+        let picked = best_free(self.activities.as_slice(), trail);
+        if let Some(var) = picked {
+            self.present[var as usize - 1] = false;
+        }
+        picked
+    }
+
+    /// Puts a variable, from 1 on, into the order, if it is not there.
+    pub fn put_back(&mut self, var: u32)
+        requires some { 1 ≤ var }
+        requires within { var ≤ length self.old.activities }
+        ensures { self.new ≡ put_back var self.old }
+    {
+        self.present[var as usize - 1] = true;
+    }
+}
+
+/// So many variables, all of them in the order.
+fn all_present(alloc: Global, count: usize) -> Result<Vec<bool>, NoMemory>
+    ensures { IfOk result (λ present. present.items ≡ replicate count true) }
+{
+    Ok(vec![in alloc; true; count]?)
+}
+
+/// Halves each of the activities.
+fn halve_all(activities: &mut List<u64>)
+    ensures { activities.new ≡ map (λ a. a / 2) activities.old }
+{
+    for place in 0..activities.len() {
+        let half = *activities.get(place) / 2;
+        activities.set(place, half);
+    }
+}
+
+/// The activity of a variable, and 0 past the activities.
+fn activity_at(activities: &[u64], var: u32) -> u64
+    ensures { result ≡ activity_at activities.now var }
+{
+    let place = (var as usize).saturating_sub(1);
+    activities.get(place).copied().unwrap_or(0)
+}
+
+/// Whether a variable is free on the trail.
+#[tactic(auto, using(crate::proofs::Best::place_free))]
+fn is_free(trail: &Trail, var: u32) -> bool
+    ensures { result ≡ is_free trail.now.entries var }
+{
+    trail.place(var).is_none()
+}
+
+/// Whether a variable has a greater activity than the best so far, or is the first.
+fn beats(activities: &[u64], best: Option<u32>, var: u32) -> bool
+    ensures { result ≡ beats activities.now best var }
+{
+    match best {
+        None => true,
+        Some(best) => activity_at(activities, best) < activity_at(activities, var),
+    }
+}
+
+/// The free variable of the greatest activity, and among these of the lowest number.
+fn best_free(activities: &[u64], trail: &Trail) -> Option<u32>
+    requires { length activities.now ≤ 1000000 }
+    ensures { result ≡ pick_of activities.now trail.now.entries }
+{
+    let mut best = None;
+    for place in 0..activities.len() {
+        let var = place as u32 + 1;
+        if is_free(trail, var) && beats(activities, best, var) {
+            best = Some(var);
+        }
+    }
+    best
+}
