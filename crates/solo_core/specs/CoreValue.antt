@@ -1,5 +1,5 @@
 -- A core, as contracts see it.
-use Rattle.std.specs.Prelude.{ℕ, Bool, true, false, ◌≡◌, List, [], Option, Some, None}
+use Rattle.std.specs.Prelude.{ℕ, Bool, true, false, List, [], Option, Some, None}
 use Rattle.lit_base.specs.Cnf.{Cnf}
 use Rattle.lit_base.specs.Rounds.{NamedClause}
 use Rattle.solo_core.specs.State.{CoreFrame, CoreState, first_state}
@@ -36,11 +36,6 @@ after_stretch quota c =
 -- the core after its sheet was given: the lemmas of the period are moved out
 abbrev pub after_sheet : CoreValue → CoreValue
 after_sheet c = record c { state = record c.state { lemmas = [] }; is_handed = true }
-
--- a core that memory wasn't refused to, before the stretch of its period
-pub record IsOpen (c : CoreValue) : Type 0 where
-  pub whole : c.is_broken ≡ false
-  pub before : c.ended ≡ None
 
 -- its search is sound, and its parts are joined
 pub record IsSearchable (s : SearchState) : Type 0 where

@@ -4,7 +4,7 @@ use lit_base::{List, Lit, Model, Name};
 /// The settings of a run, the same for all its cores.
 ///
 /// `cores` is from 1 to 16, `period` (the conflicts of a core's first period) from 1 to 100,000, `share` (the
-/// literals of a clause that is posted) from 0 to 64, `limit` (the conflicts of each core in the whole run) from 0
+/// literals of a clause that is posted) from 0 to 64, `limit` (the conflicts of each core in the whole run) from 1
 /// to 1,000,000,000; `seed` is any number.
 #[derive(Clone, Copy, Debug, PartialEq, Eq)]
 pub struct Settings {

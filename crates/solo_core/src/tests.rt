@@ -103,7 +103,14 @@ fn sheet_of(
     };
     let mut core = Core::make(alloc, &formula, &settings, 0)?;
     core.stretch(limit.max(1))?;
-    core.sheet()
+    let (period, conflicts, volume) = (core.period(), core.conflicts(), core.volume());
+    let sheet = core.sheet()?;
+    assert_eq!(rt;
+        (sheet.mail.period, sheet.mail.conflicts),
+        (period, conflicts)
+    );
+    assert_eq!(rt; sheet.mail.volume, volume);
+    Ok(sheet)
 }
 
 #[test]
@@ -123,6 +130,7 @@ fn a_core_solves_small_formulas(rt: HostRuntime) -> Result<(), Fail> {
         assert_eq!(rt; sheet.mail.end, end);
         assert_eq!(rt; sheet.lemmas.len(), lemmas);
         assert_eq!(rt; sheet.mail.conflicts as usize, lemmas);
+        assert_eq!(rt; sheet.model.is_some(), end == End::Sat);
         if let Some(model) = &sheet.model {
             assert_eq!(rt; model.values(), values);
         }

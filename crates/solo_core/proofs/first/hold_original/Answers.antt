@@ -2,15 +2,16 @@ use Rattle.std.proofs.Common.{ap, ◌∙◌}
 use Rattle.std.specs.Prelude.{is_some}
 use Rattle.lit_base.specs.Rounds.{original}
 use Rattle.lit_base.specs.Named.{lits_at}
-use Rattle.lit_base.specs.Held.{clauses_of}
-use Rattle.solo_core.proofs.Attaching.{found-added, unattached, attached-on_ok}
+use Rattle.lit_base.specs.Held.{clauses_of, unused}
+use Rattle.solo_core.proofs.Attaching.{unattached, attached-on_ok}
+use Rattle.solo_core.proofs.Joined.{found_new}
 use Rattle.solo_core.proofs.first.hold_original.Goals as goal
 
 -- the clause is held now
 pub attach-requires-clause-held : goal.attach-requires-clause-held
 attach-requires-clause-held c =
     ap (λ held. is_some (lits_at (clauses_of held) (original c.args.index))) c.in_ok-add.ensures.ok
-    ∙ ap is_some (found-added (original c.args.index) c.args.lits.now c.args.pool.now c.requires.new)
+    ∙ ap is_some (found_new (unused (record { name = original c.args.index; lits = c.args.lits.now })) c.args.pool.now c.requires.new)
 
 -- it isn't attached yet
 pub attach-requires-clause-new : goal.attach-requires-clause-new
