@@ -26,3 +26,5 @@ pub mod HeldClauses
 pub mod LessonHints
 pub mod TrailWithin
 pub mod HintsDistinct
+pub mod Passed
+pub mod Touched
