@@ -12,6 +12,7 @@ pub use lesson_laws::{
 };
 pub use list::List;
 pub use lit::{Lit, MOST_VARIABLES};
+pub use lit_set::LitSet;
 pub use memory::NoMemory;
 pub use model::Model;
 pub use name::Name;
@@ -32,6 +33,7 @@ mod lesson;
 mod lesson_laws;
 mod list;
 mod lit;
+mod lit_set;
 mod memory;
 mod model;
 mod name;
