@@ -1,4 +1,5 @@
 pub mod DistinctLits
+pub mod Apart
 pub mod Signs
 pub mod RoundSteps
 pub mod ValueLines

@@ -1,4 +1,6 @@
-ghost use Rattle.std.specs.Prelude.{◌≡◌, ◌<◌, ℕ, ◌==◌, true, false, not, slice_index_or, if◌then◌else◌, vec_len, IfOk};
+ghost use Rattle.std.specs.Prelude.{◌≡◌, ◌<◌, ◌↔◌, ℕ, ◌==◌, true, false, not, slice_index_or, if◌then◌else◌, vec_len, All, IfOk, IsTrue};
+ghost use Rattle.std.specs.List.{IsDistinct};
+ghost use Rattle.lit_base.specs.Literal.{IsWithin, same};
 ghost use Rattle.lit_base.specs.Distinct.{distinct};
 ghost use Rattle.lit_base.specs.Truth.{is_clause_true};
 
@@ -32,6 +34,11 @@ impl Model for Clause {
     ghost Value = { List Literal };
 
     ghost view = { λ c. c.lits };
+
+    ghost use Rattle.std.specs.List.{IsDistinct};
+    ghost use Rattle.lit_base.specs.Literal.{same};
+
+    ghost invariant = { λ c. IsDistinct same c.lits };
 }
 
 impl Clause {
@@ -58,11 +65,22 @@ impl Clause {
         self.lits.as_slice().iter().any(|lit| model.is_true(*lit))
     }
 
-    /// The literals of the clause, in order.
+    /// The literals of the clause, in order, each of them once.
     pub fn lits(&self) -> &[Lit]
-        ensures { result.now ≡ self.now }
+        ensures value { result.now ≡ self.now }
+        ensures distinct { IsDistinct same result.now }
     {
         self.lits.as_slice()
+    }
+
+    /// Whether the clause is over the variables from 1 to this one.
+    pub fn is_within(&self, variables: u32) -> bool
+        ensures { IsTrue result ↔ All (IsWithin variables) self.now }
+    {
+        self.lits
+            .as_slice()
+            .iter()
+            .all(|lit| lit.var() <= variables)
     }
 }
 

@@ -11,7 +11,7 @@ pub use lesson_laws::{
     law_propagation_fits, law_root_lesson_is_empty, law_small_lesson,
 };
 pub use list::List;
-pub use lit::Lit;
+pub use lit::{Lit, MOST_VARIABLES};
 pub use memory::NoMemory;
 pub use model::Model;
 pub use name::Name;

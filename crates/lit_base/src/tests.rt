@@ -1,6 +1,3 @@
-ghost use Rattle.std.specs.Prelude.{◌↔◌, IsTrue, All};
-ghost use Rattle.lit_base.specs.Literal.{IsWithin};
-
 use crate::{
     Clause, Entry, Formula, List, Lit, Model, Name, NoMemory, Text, Value,
     law_checked_proof_refutes, law_conflict_has_two_literals, law_conflict_refutes,
@@ -32,16 +29,6 @@ fn numbers(alloc: Global, clause: &Clause) -> Result<Vec<i32>, NoMemory> {
     Ok(numbers)
 }
 
-/// Whether the clause's variables are at most this one.
-fn is_within(clause: &Clause, variables: u32) -> bool
-    ensures { IsTrue result ↔ All (IsWithin variables) clause.now }
-{
-    clause
-        .lits()
-        .iter()
-        .all(|lit| 1 <= lit.var() && lit.var() <= variables)
-}
-
 /// Adds a clause of these literals to the formula.
 fn push_clause(
     rt: &impl Abort,
@@ -50,7 +37,7 @@ fn push_clause(
     numbers: &[i32],
 ) -> Result<(), NoMemory> {
     let clause = Clause::of(alloc, &lits(rt, alloc, numbers)?)?;
-    assert!(rt; formula.len() < 10 && is_within(&clause, formula.variables()));
+    assert!(rt; formula.len() < 10 && clause.is_within(formula.variables()));
     formula.push(clause)
 }
 
@@ -58,14 +45,6 @@ fn push_clause(
 fn is_satisfied(rt: &impl Abort, formula: &Formula, model: &Model) -> bool {
     assert_eq!(rt; model.values().len(), formula.variables() as usize);
     formula.satisfied(model)
-}
-
-fn model(alloc: Global, values: &[bool]) -> Result<Model, NoMemory> {
-    let mut list = List::new(alloc);
-    for value in values {
-        list.push(*value)?;
-    }
-    Ok(Model::new(list))
 }
 
 #[test]
@@ -164,7 +143,7 @@ fn a_formula_holds_its_clauses_and_judges_models(rt: HostRuntime) -> Result<(), 
         ([false, false, true], true),
         ([true, false, false], false),
     ] {
-        let model = model(alloc, &values)?;
+        let model = Model::new(List::of(alloc, &values)?);
         assert_eq!(rt; model.values(), values.as_slice());
         assert_eq!(rt;
             is_satisfied(&rt, &formula, &model),
@@ -173,7 +152,7 @@ fn a_formula_holds_its_clauses_and_judges_models(rt: HostRuntime) -> Result<(), 
         );
     }
     push_clause(&rt, alloc, &mut formula, &[])?;
-    let all = model(alloc, &[true, true, true])?;
+    let all = Model::new(List::of(alloc, &[true, true, true])?);
     assert_eq!(rt; is_satisfied(&rt, &formula, &all), false);
     Ok(())
 }
@@ -204,24 +183,16 @@ fn a_text_is_its_own_copy(rt: HostRuntime) -> Result<(), Fail> {
     Ok(())
 }
 
-fn name(period: u32, core: u32, index: u32) -> Name {
-    Name {
-        period,
-        core,
-        index,
-    }
-}
-
 #[test]
 fn names_are_ordered_as_in_a_dictionary(rt: HostRuntime) {
     let rising = [
-        name(0, 0, 0),
-        name(0, 0, 9),
-        name(0, 1, 0),
-        name(0, 1, 1),
-        name(1, 0, 0),
-        name(1, 0, 7),
-        name(2, 0, 0),
+        Name::lemma(0, 0, 0),
+        Name::lemma(0, 0, 9),
+        Name::lemma(0, 1, 0),
+        Name::lemma(0, 1, 1),
+        Name::lemma(1, 0, 0),
+        Name::lemma(1, 0, 7),
+        Name::lemma(2, 0, 0),
     ];
     for (i, low) in rising.iter().enumerate() {
         for (j, high) in rising.iter().enumerate() {
@@ -232,7 +203,7 @@ fn names_are_ordered_as_in_a_dictionary(rt: HostRuntime) {
 
 #[test]
 fn entries_and_values_are_compared_by_all_that_they_hold(rt: HostRuntime) {
-    let reason = Some(name(0, 0, 5));
+    let reason = Some(Name::original(5));
     let lit = Lit::of(1, true);
     let entry = Entry {
         lit,
