@@ -1,12 +1,12 @@
 -- Lemmas that are derived, and their names.
-use Rattle.std.proofs.Common.{◌≡◌, ℕ, ◌+◌, ◌<◌, Bool, true, false, List, [], ◌∷◌, ◌++◌, length, append_assoc, append-nil, refl, ap, sym, ◌∙◌, subst, arith}
+use Rattle.std.proofs.Common.{◌≡◌, ℕ, ◌+◌, ◌<◌, Bool, true, false, List, [], ◌∷◌, ◌++◌, length, append_assoc, append-nil, All, refl, ap, sym, ◌∙◌, subst, arith}
 use Rattle.std.specs.Prelude.{Option, Some, None, IsSome, option_map, find}
 use Rattle.std.specs.List.{AllByRecursion}
 use Rattle.std.specs.Option.{option_or}
 use Rattle.std.proofs.lemmas.Bool.{cond-false, false_from_ne_true}
 use Rattle.std.proofs.lemmas.List.Folds.{find-append}
 use Rattle.std.proofs.lemmas.Option.{none-some}
-use Rattle.lit_base.specs.Literal.{Literal}
+use Rattle.lit_base.specs.Literal.{Literal, IsWithin}
 use Rattle.lit_base.specs.Rounds.{NamedClause}
 use Rattle.lit_base.specs.Named.{same_name, lits_at}
 use Rattle.lit_base.specs.Walk.{FindsMore}
@@ -14,7 +14,7 @@ use Rattle.lit_base.specs.declared.name.Name.{Name}
 use Rattle.lit_base.proofs.WalkMore.{judgement_same_names}
 use Rattle.solo_core.specs.declared.lemma.Lemma.{Lemma}
 use Rattle.solo_core.specs.State.{lemma_name, lemma_clause, lemma_clauses}
-use Rattle.solo_core.specs.Soundness.{IsDerived, AreDerived, AreNamed, HasLiterals}
+use Rattle.solo_core.specs.Soundness.{IsDerived, AreDerived, AreNamed, HasLiterals, AreLemmasWithin, NoneFrom}
 use Rattle.lit_base.proofs.HeldClauses.{same_name-true, lits_at-cons}
 
 lits_of_either : (o p : Option NamedClause) → option_map (λ c. c.lits) (option_or o p) ≡ option_or (option_map (λ c. c.lits) o) (option_map (λ c. c.lits) p)
@@ -76,6 +76,12 @@ pub nonempty_one_more : (lemmas : List Lemma) (lemma : Lemma) → AllByRecursion
 nonempty_one_more [] lemma all one = (one, tt)
 nonempty_one_more (first ∷ later) lemma all one = (all.0, nonempty_one_more later lemma all.1 one)
 
+-- and the literals of all are within the variables
+pub within_one_more : (variables : ℕ) (lemmas : List Lemma) (lemma : Lemma) → AreLemmasWithin variables lemmas → All (IsWithin variables) lemma.lits →
+    AreLemmasWithin variables (lemmas ++ lemma ∷ [])
+within_one_more variables [] lemma all one = (one, tt)
+within_one_more variables (first ∷ later) lemma all one = (all.0, within_one_more variables later lemma all.1 one)
+
 -- a name that is at none of the places of the lemmas isn't found among them
 none_named : (period core place : ℕ) (lemmas : List Lemma) (n : Name) → ((at : ℕ) → at < place + length lemmas → n ≡ lemma_name period core at → ⊥) → AreNamed period core place lemmas →
     lits_at (lemma_clauses lemmas) n ≡ None
@@ -87,10 +93,10 @@ none_named period core place (lemma ∷ later) n other named =
     ∙ none_named period core (place + 1) later n (λ at below. other at (omega arith)) named.1)
 
 -- the name of the next lemma is none of the names so far
-pub next_is_fresh : (base : List NamedClause) (period core : ℕ) (lemmas : List Lemma) → ((place : ℕ) → lits_at base (lemma_name period core place) ≡ None) →
+pub next_is_fresh : (base : List NamedClause) (period core : ℕ) (lemmas : List Lemma) → NoneFrom base period →
     AreNamed period core 0 lemmas → lits_at (base ++ lemma_clauses lemmas) (lemma_name period core (length lemmas)) ≡ None
 next_is_fresh base period core lemmas fresh named =
-    found_behind base (lemma_clauses lemmas) (lemma_name period core (length lemmas)) (fresh (length lemmas))
+    found_behind base (lemma_clauses lemmas) (lemma_name period core (length lemmas)) (fresh (lemma_name period core (length lemmas)) (omega arith))
     ∙ none_named period core 0 lemmas (lemma_name period core (length lemmas)) (λ at below same. let place : length lemmas ≡ at = ap (λ n. n.index) same in omega arith) named
 
 -- a name that is none of this period and core is no lemma's

@@ -41,13 +41,13 @@ derived_true model known (lemma ∷ later) all derived =
     (one, derived_true model (known ++ lemma_clause lemma ∷ []) later (true_with model known (lemma_clause lemma) all one) derived.1)
 
 -- a model of a formula makes its clauses true under their names
-named_true : (model : List Bool) (index : ℕ) (clauses : List (List Literal)) → list_all (is_clause_true model) clauses ≡ true → AreTrueIn model (named_from index clauses)
+pub named_true : (model : List Bool) (index : ℕ) (clauses : List (List Literal)) → list_all (is_clause_true model) clauses ≡ true → AreTrueIn model (named_from index clauses)
 named_true model index [] all = tt
 named_true model index (lits ∷ others) all =
     let parts = and_parts (is_clause_true model lits) (list_all (is_clause_true model) others) all in (parts.0, named_true model (index + 1) others parts.1)
 
 -- no empty lemma is true
-last_untrue : (model : List Bool) (lemmas earlier : List Lemma) (last : Lemma) → lemmas ≡ earlier ++ last ∷ [] → last.lits ≡ [] →
+pub last_untrue : (model : List Bool) (lemmas earlier : List Lemma) (last : Lemma) → lemmas ≡ earlier ++ last ∷ [] → last.lits ≡ [] →
     AllByRecursion (λ lemma. IsTrue (is_clause_true model lemma.lits)) lemmas → ⊥
 last_untrue model lemmas earlier last split empty all =
     at_end earlier (subst (λ ls. AllByRecursion (λ lemma. IsTrue (is_clause_true model lemma.lits)) ls) split all)

@@ -1,10 +1,11 @@
 -- By which rule a stretch ends, and how many conflicts it has.
-use Rattle.std.proofs.Common.{◌≡◌, ℕ, zero, suc, ◌==◌, ◌+◌, ◌≤◌, ◌<◌, List, [], ◌∷◌, length, length-append, cond, refl, ap, arith}
+use Rattle.std.proofs.Common.{◌≡◌, ℕ, zero, suc, ◌==◌, ◌+◌, ◌≤◌, ◌<◌, List, [], ◌∷◌, length, length-append, cond, not, ◌&&◌, refl, ap, sym, ◌∙◌, arith}
 use Rattle.std.specs.Prelude.{Option, Some, None, option_map}
 use Rattle.std.proofs.lemmas.Bool.{cond_both, eqb-true, eqb-false, eq-eqb}
 use Rattle.lit_base.specs.Trail.{level_now, first_free}
 use Rattle.lit_base.specs.Backjump.{cut}
-use Rattle.lit_base.specs.Held.{clauses_of}
+use Rattle.lit_base.specs.Held.{HeldClause, clauses_of, is_among, is_original, with_clause, with_uses, volume_of}
+use Rattle.clause_pool.proofs.Volume.{weight_of, weight-le, volume_of-cons, volume_of-with}
 use Rattle.lit_base.specs.Analysis.{lesson_of}
 use Rattle.lit_base.specs.declared.trail.Entry.{Entry}
 use Rattle.lit_base.specs.declared.name.Name.{Name}
@@ -62,12 +63,28 @@ search_suffices (suc n) f k enough = by_end (turn f k).came_to (turn f k).state 
 pub turns_suffice : (f : CoreFrame) (k : CoreState) → (search (f.variables + 1) f k).came_to ≡ Decided → ⊥
 turns_suffice f k = search_suffices (f.variables + 1) f k (omega (arith, free_count-le f.variables k.trail))
 
+-- counting uses changes no volume
+volume_of-with_uses : (hints : List Name) (held : List HeldClause) → volume_of (with_uses hints held) ≡ volume_of held
+volume_of-with_uses hints [] = refl
+volume_of-with_uses hints (c ∷ later) =
+    let rest = ap (λ n. n + weight_of (is_original c.name)) (volume_of-with_uses hints later) ∙ sym (volume_of-cons c later) in
+    let used : HeldClause = record c { uses = c.uses + 1 } in
+    cond_both (not (is_original c.name) && is_among hints c.name) used c
+    (λ d. volume_of (d ∷ with_uses hints later) ≡ volume_of (c ∷ later))
+    (λ counted. volume_of-cons used (with_uses hints later) ∙ rest)
+    (λ uncounted. volume_of-cons c (with_uses hints later) ∙ rest)
+
+-- a lemma that is learnt adds one at most
+volume_of-held : (hints : List Name) (c : HeldClause) (held : List HeldClause) → volume_of (with_uses hints (with_clause c held)) ≤ volume_of held + 1
+volume_of-held hints c held = omega (arith, volume_of-with_uses hints (with_clause c held), volume_of-with c held, weight-le (is_original c.name))
+
 -- the state after so many conflicts more, each of which left a lemma
 record Counted (more : ℕ) (before after : CoreState) : Type 0 where
   conflicts : after.conflicts ≡ before.conflicts + more
   in_period : after.period_conflicts ≡ before.period_conflicts + more
   lemmas : length after.lemmas ≡ length before.lemmas + more
   period : after.period ≡ before.period
+  volume : volume_of after.clauses ≤ volume_of before.clauses + more
 
 -- how many conflicts a turn has
 abbrev conflicts_at : TurnEnd → ℕ
@@ -81,15 +98,15 @@ abbrev CountedTurn : CoreState → Turned → Type 0
 CountedTurn k t = Counted (conflicts_at t.came_to) k t.state
 
 chosen_counted : (k : CoreState) (o : Option ℕ) → CountedTurn k (chosen k (option_map (last_literal k) o))
-chosen_counted k None = record { conflicts = omega arith; in_period = omega arith; lemmas = omega arith; period = refl }
-chosen_counted k (Some v) = record { conflicts = omega arith; in_period = omega arith; lemmas = omega arith; period = refl }
+chosen_counted k None = record { conflicts = omega arith; in_period = omega arith; lemmas = omega arith; period = refl; volume = omega arith }
+chosen_counted k (Some v) = record { conflicts = omega arith; in_period = omega arith; lemmas = omega arith; period = refl; volume = omega arith }
 
 taught_counted : (f : CoreFrame) (k : CoreState) (lesson : Lesson) → CountedTurn k (taught f k lesson)
 taught_counted f k lesson =
     let one_more = length-append k.lemmas (lemma_of f k lesson ∷ []) in
     cond_both (level_now k.trail == 0) (record { state = refuted f lesson k; came_to = Refuted }) (record { state = learnt f lesson k; came_to = Learnt }) (CountedTurn k)
-    (λ root. record { conflicts = refl; in_period = refl; lemmas = one_more; period = refl })
-    (λ above. record { conflicts = refl; in_period = refl; lemmas = one_more; period = refl })
+    (λ root. record { conflicts = refl; in_period = refl; lemmas = one_more; period = refl; volume = omega arith })
+    (λ above. record { conflicts = refl; in_period = refl; lemmas = one_more; period = refl; volume = volume_of-held lesson.hints (record { name = (lemma_of f k lesson).name; lits = lesson.lits; uses = 0 }) k.clauses })
 
 turn_by_counted : (f : CoreFrame) (k : CoreState) (o : Option Name) → CountedTurn k (turn_by f k o)
 turn_by_counted f k None = chosen_counted k (first_free f.variables 1 k.trail)
@@ -100,10 +117,10 @@ turn_counted : (f : CoreFrame) (k : CoreState) → CountedTurn k (turn f k)
 turn_counted f k =
     let p = propagated f k in
     let c = turn_by_counted f (record k { trail = p.trail }) p.conflict in
-    record { conflicts = c.conflicts; in_period = c.in_period; lemmas = c.lemmas; period = c.period }
+    record { conflicts = c.conflicts; in_period = c.in_period; lemmas = c.lemmas; period = c.period; volume = c.volume }
 
 none_counted : (k : CoreState) → Counted 0 k k
-none_counted k = record { conflicts = omega arith; in_period = omega arith; lemmas = omega arith; period = refl }
+none_counted k = record { conflicts = omega arith; in_period = omega arith; lemmas = omega arith; period = refl; volume = omega arith }
 
 -- conflicts of two parts, one after the other
 joined : (first second sum : ℕ) (k l m : CoreState) → first + second ≡ sum → Counted first k l → Counted second l m → Counted sum k m
@@ -112,6 +129,7 @@ joined first second sum k l m is one other = record {
   in_period = omega arith;
   lemmas = omega arith;
   period = cc;
+  volume = omega arith;
 }
 
 search_counted : (n : ℕ) (f : CoreFrame) (k : CoreState) → CountedTurn k (search n f k)
@@ -134,7 +152,7 @@ record CountedWithin (quota : ℕ) (before after : CoreState) : Type 0 where
 -- ending at the root changes no count
 rooted_counted : (n quota : ℕ) (ended : End) (k l : CoreState) → n ≤ quota → Counted n k l → CountedWithin quota k (ended_at_root ended l).state
 rooted_counted n quota ended k l few c =
-    record { taken = n; within = few; counted = record { conflicts = c.conflicts; in_period = c.in_period; lemmas = c.lemmas; period = c.period } }
+    record { taken = n; within = few; counted = record { conflicts = c.conflicts; in_period = c.in_period; lemmas = c.lemmas; period = c.period; volume = c.volume } }
 
 -- one conflict, and then a stretch of at most so many
 one_more_within : (quota : ℕ) (k l m : CoreState) → Counted 1 k l → CountedWithin quota l m → CountedWithin (suc quota) k m
@@ -215,7 +233,7 @@ conflicts_at_most f quota k = let counted = stretch_counted f quota k in omega a
 pub conflicts_counted : (f : CoreFrame) (quota : ℕ) (k : CoreState) → CountsConflicts k (stretch f quota k).state
 conflicts_counted f quota k =
     let of_stretch = (stretch_counted f quota k).counted in
-    record { risen = omega arith; in_period = omega arith; lemmas = omega arith; period = of_stretch.period }
+    record { risen = omega arith; in_period = omega arith; lemmas = omega arith; period = of_stretch.period; volume = omega arith }
 
 -- a core that has spent its limit ends so at once, and stays as it was
 spent_stretch : (f : CoreFrame) (quota : ℕ) (k : CoreState) → k.conflicts ≡ f.limit → stretch f quota k ≡ record { state = k; ended = Spent }

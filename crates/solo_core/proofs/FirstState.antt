@@ -11,7 +11,7 @@ use Rattle.lit_base.specs.Fits.{FindsAll}
 use Rattle.lit_base.specs.declared.name.Name.{Name}
 use Rattle.lit_base.proofs.FixedPoint.{named_within}
 use Rattle.lit_base.proofs.OriginalsFound.{originals_found}
-use Rattle.solo_core.specs.State.{first_state, lemma_name}
+use Rattle.solo_core.specs.State.{first_state}
 use Rattle.solo_core.specs.Soundness.{IsSound, HoldsFormula}
 use Rattle.lit_base.proofs.HeldClauses.{same_name-true, lits_at-cons}
 
@@ -34,16 +34,21 @@ pub first_sound : (cnf : Cnf) (core limit : ℕ) → IsFormula cnf → IsSound (
 first_sound cnf core limit formula =
     let same : originals cnf ≡ clauses_of (map unused (originals cnf)) = sym (clauses_of-unused (originals cnf)) in
     record {
-      found = subst (λ clauses. FindsAll (lits_at clauses) clauses) same (originals_found cnf);
-      within = subst (λ clauses. All (λ c. All (IsWithin cnf.variables) c.lits) clauses) same (named_within cnf.variables 0 cnf.clauses formula.within);
-      fitting = record { distinct = tt; fits = tt; leveled = tt };
-      trail_within = tt;
-      quiet = λ level below. absurd (omega arith);
-      carried = λ name lits is. ap (λ clauses. lits_at clauses name) (append-nil (originals cnf) ∙ same) ∙ is;
-      fresh = λ place. no_original 0 cnf.clauses (lemma_name 1 core place) (λ same. omega arith);
-      named = tt;
-      derived = tt;
-      none_empty = tt;
+      holds = record {
+        found = subst (λ clauses. FindsAll (lits_at clauses) clauses) same (originals_found cnf);
+        within = subst (λ clauses. All (λ c. All (IsWithin cnf.variables) c.lits) clauses) same (named_within cnf.variables 0 cnf.clauses formula.within);
+        fitting = record { distinct = tt; fits = tt; leveled = tt };
+        trail_within = tt;
+        quiet = λ level below. absurd (omega arith);
+      };
+      derives = record {
+        carried = λ name lits is. ap (λ clauses. lits_at clauses name) (append-nil (originals cnf) ∙ same) ∙ is;
+        fresh = λ name late. no_original 0 cnf.clauses name (λ same. omega (arith, late, same));
+        named = tt;
+        derived = tt;
+        none_empty = tt;
+        lemmas_within = tt;
+      };
     }
 
 -- each clause of the formula is held at first

@@ -42,18 +42,18 @@ back_low s lesson may = let lower = (asserting s lesson may).back_lower in omega
 pub hints_held : (s : SearchState) (lesson : Lesson) → MayLearn s lesson → AllByRecursion (λ hint. IsSome (look_of s.state hint)) lesson.hints
 hints_held s lesson may =
     subst (λ (l : Lesson). AllByRecursion (λ hint. IsSome (look_of s.state hint)) l.hints) (sym may.taught.lesson_is)
-    (hints_found (look_of s.state) s.state.trail may.taught.conflict may.ready.sound.fitting.fits may.taught.stands)
+    (hints_found (look_of s.state) s.state.trail may.taught.conflict may.ready.sound.holds.fitting.fits may.taught.stands)
 
 pub hints_apart : (s : SearchState) (lesson : Lesson) → MayLearn s lesson → IsDistinct same_name lesson.hints
 hints_apart s lesson may =
     subst (λ (l : Lesson). IsDistinct same_name l.hints) (sym may.taught.lesson_is)
-    (hints_distinct (look_of s.state) s.state.trail may.taught.conflict may.ready.sound.fitting may.taught.stands)
+    (hints_distinct (look_of s.state) s.state.trail may.taught.conflict may.ready.sound.holds.fitting may.taught.stands)
 
 -- the next name isn't held
 pub name_free : (s : SearchState) → IsReady s → look_of s.state (lemma_name s.state.period s.frame.core (length s.state.lemmas)) ≡ None
 name_free s ready =
-    missed_before (look_of s.state) (lits_at (ready.base ++ lemma_clauses s.state.lemmas)) (lemma_name s.state.period s.frame.core (length s.state.lemmas)) ready.sound.carried
-    (next_is_fresh ready.base s.state.period s.frame.core s.state.lemmas ready.sound.fresh ready.sound.named)
+    missed_before (look_of s.state) (lits_at (ready.base ++ lemma_clauses s.state.lemmas)) (lemma_name s.state.period s.frame.core (length s.state.lemmas)) ready.sound.derives.carried
+    (next_is_fresh ready.base s.state.period s.frame.core s.state.lemmas ready.sound.derives.fresh ready.sound.derives.named)
 
 -- no clause has more uses than can be counted
 pub uses_fit : (s : SearchState) → IsReady s → s.state.conflicts < 2 ^ 32 → AreFewUses (2 ^ 32) s.state.clauses

@@ -3,6 +3,7 @@ pub mod FirstState
 pub mod EndRules
 pub mod SoundSteps
 pub mod SoundClauses
+pub mod NextPeriod
 pub mod SoundLearnt
 pub mod SoundStretch
 pub mod StretchSound
@@ -17,3 +18,4 @@ pub mod Joined
 pub mod Learnt
 pub mod Searched
 pub mod Stretching
+pub mod Kept

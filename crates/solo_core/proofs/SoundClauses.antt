@@ -1,5 +1,5 @@
 -- Clauses that are added to a core or dropped from it.
-use Rattle.std.proofs.Common.{◌≡◌, ℕ, ◌+◌, Bool, true, false, cond, List, [], ◌∷◌, ◌++◌, append_assoc, All, refl, ap, sym, ◌∙◌, subst, arith}
+use Rattle.std.proofs.Common.{◌≡◌, ℕ, ◌+◌, ◌<◌, Bool, true, false, cond, List, [], ◌∷◌, ◌++◌, append_assoc, All, refl, ap, sym, ◌∙◌, subst, arith}
 use Rattle.std.specs.Prelude.{Option, Some, None, option_map, find, IsFalse, ◌||◌}
 use Rattle.std.specs.List.{AllByRecursion}
 use Rattle.std.proofs.lemmas.Bool.{true≢false}
@@ -21,7 +21,8 @@ use Rattle.solo_core.specs.declared.lemma.Lemma.{Lemma}
 use Rattle.solo_core.specs.State.{CoreFrame, CoreState, lemma_name, lemma_clauses}
 use Rattle.solo_core.specs.Turn.{look_of}
 use Rattle.solo_core.specs.Changes.{with_added, with_dropped, IsOther, AreNoReasons}
-use Rattle.solo_core.specs.Soundness.{IsSound, AreNamed, HoldsFormula}
+use Rattle.solo_core.proofs.SoundSteps.{carried_sound}
+use Rattle.solo_core.specs.Soundness.{NoneFrom, IsSound, AreNamed, HoldsFormula}
 
 -- what finds at least the same misses no more
 pub missed_before : (look found : Name → Option (List Literal)) (n : Name) → FindsMore look found (λ name. name) → found n ≡ None → look n ≡ None
@@ -76,44 +77,64 @@ fresh_with base c n other none = found_behind base (c ∷ []) n none ∙ by_name
     by_name false not_here = found_later c [] n not_here
 
 -- no lemma of the period is found among clauses that have none of its names
-lemmas_not_found : (known : List NamedClause) (period core place : ℕ) (lemmas : List Lemma) → ((i : ℕ) → lits_at known (lemma_name period core i) ≡ None) → AreNamed period core place lemmas →
+lemmas_not_found : (known : List NamedClause) (period core place : ℕ) (lemmas : List Lemma) → NoneFrom known period → AreNamed period core place lemmas →
     AllByRecursion (λ lemma. lits_at known lemma.name ≡ None) lemmas
 lemmas_not_found known period core place [] fresh named = tt
-lemmas_not_found known period core place (lemma ∷ later) fresh named =
-    (ap (λ n. lits_at known n) named.0 ∙ fresh place, lemmas_not_found known period core (place + 1) later fresh named.1)
+lemmas_not_found known period core place (lemma ∷ later) fresh named = (
+  ap (λ n. lits_at known n) named.0 ∙ fresh (lemma_name period core place) (omega arith),
+  lemmas_not_found known period core (place + 1) later fresh named.1,
+)
+
+-- a clause of an earlier period leaves no name of this period or a later one
+none_from-with : (known : List NamedClause) (period : ℕ) (c : NamedClause) → c.name.period < period → NoneFrom known period → NoneFrom (known ++ c ∷ []) period
+none_from-with known period c before fresh name late =
+    fresh_with known c name (λ same. let e : c.name.period ≡ name.period = ap (λ n. n.period) same in omega (arith, before, late)) (fresh name late)
+
+-- a name of an earlier period is no name of this one
+earlier_name : (name : Name) (period core place : ℕ) → name.period < period → name ≡ lemma_name period core place → ⊥
+earlier_name name period core place before same = let e : name.period ≡ period = ap (λ n. n.period) same in omega (arith, before)
 
 -- at level 0 nothing has to be quiet
 quiet_at_root : (trail : List Entry) (clauses : List NamedClause) → level_now trail ≡ 0 → AreQuietBelow trail clauses
 quiet_at_root trail clauses root level low = absurd (omega (arith, root))
 
--- any clause of a new name may be added at level 0
+-- a clause of an earlier period that isn't known isn't held
+added_free : (base : List NamedClause) (f : CoreFrame) (k : CoreState) (c : NamedClause) → IsSound base f k → lits_at base c.name ≡ None → c.name.period < k.period →
+    lits_at (clauses_of k.clauses) c.name ≡ None
+added_free base f k c sound new before =
+    missed_before (look_of k) (lits_at (base ++ lemma_clauses k.lemmas)) c.name sound.derives.carried
+    (not_found_in_both base k.period f.core k.lemmas c.name new (λ place. earlier_name c.name k.period f.core place before) sound.derives.named)
+
+-- any clause of an earlier period and a new name may be added at level 0
 pub added_sound : (base : List NamedClause) (f : CoreFrame) (k : CoreState) (c : NamedClause) → IsSound base f k → level_now k.trail ≡ 0 → All (IsWithin f.variables) c.lits →
-    lits_at base c.name ≡ None → ((place : ℕ) → c.name ≡ lemma_name k.period f.core place → ⊥) → IsSound (base ++ c ∷ []) f (with_added c k)
-added_sound base f k c sound root within new other =
-    let free : lits_at (clauses_of k.clauses) c.name ≡ None =
-    missed_before (look_of k) (lits_at (base ++ lemma_clauses k.lemmas)) c.name sound.carried (not_found_in_both base k.period f.core k.lemmas c.name new other sound.named) in
-    let fresh : (place : ℕ) → lits_at (base ++ c ∷ []) (lemma_name k.period f.core place) ≡ None =
-    λ place. fresh_with base c (lemma_name k.period f.core place) (other place) (sound.fresh place) in
+    lits_at base c.name ≡ None → c.name.period < k.period → IsSound (base ++ c ∷ []) f (with_added c k)
+added_sound base f k c sound root within new before =
+    let free = added_free base f k c sound new before in
+    let fresh = none_from-with base k.period c before sound.derives.fresh in
     record {
-      found = found-with (unused c) k.clauses free sound.found;
-      within = All-with (λ d. All (IsWithin f.variables) d.lits) (unused c) k.clauses within sound.within;
-      fitting = fitting-more (look_of k) (look_of (with_added c k)) k.trail (finds_more-with (unused c) k.clauses free) sound.fitting;
-      trail_within = sound.trail_within;
-      quiet = quiet_at_root k.trail (clauses_of (with_clause (unused c) k.clauses)) root;
-      carried = subst (λ known. FindsMore (look_of (with_added c k)) (lits_at known) (λ name. name)) (sym (append_assoc base (c ∷ []) (lemma_clauses k.lemmas)))
-          (carried_with (unused c) k.clauses base (lemma_clauses k.lemmas) sound.carried free new);
-      fresh = fresh;
-      named = sound.named;
-      derived = derived_from_more base (base ++ c ∷ []) k.lemmas (λ n lits is. found_in_front base (c ∷ []) n lits is)
-          (lemmas_not_found (base ++ c ∷ []) k.period f.core 0 k.lemmas fresh sound.named) sound.derived;
-      none_empty = sound.none_empty;
+      holds = record {
+        found = found-with (unused c) k.clauses free sound.holds.found;
+        within = All-with (λ d. All (IsWithin f.variables) d.lits) (unused c) k.clauses within sound.holds.within;
+        fitting = fitting-more (look_of k) (look_of (with_added c k)) k.trail (finds_more-with (unused c) k.clauses free) sound.holds.fitting;
+        trail_within = sound.holds.trail_within;
+        quiet = quiet_at_root k.trail (clauses_of (with_clause (unused c) k.clauses)) root;
+      };
+      derives = record {
+        carried = subst (λ known. FindsMore (look_of (with_added c k)) (lits_at known) (λ name. name)) (sym (append_assoc base (c ∷ []) (lemma_clauses k.lemmas)))
+            (carried_with (unused c) k.clauses base (lemma_clauses k.lemmas) sound.derives.carried free new);
+        fresh = fresh;
+        named = sound.derives.named;
+        derived = derived_from_more base (base ++ c ∷ []) k.lemmas (λ n lits is. found_in_front base (c ∷ []) n lits is)
+            (lemmas_not_found (base ++ c ∷ []) k.period f.core 0 k.lemmas fresh sound.derives.named) sound.derives.derived;
+        none_empty = sound.derives.none_empty;
+        lemmas_within = sound.derives.lemmas_within;
+      };
     }
 
 pub added_holds : (cnf : Cnf) (base : List NamedClause) (f : CoreFrame) (k : CoreState) (c : NamedClause) → IsSound base f k → lits_at base c.name ≡ None →
-    ((place : ℕ) → c.name ≡ lemma_name k.period f.core place → ⊥) → HoldsFormula cnf k → HoldsFormula cnf (with_added c k)
-added_holds cnf base f k c sound new other holds =
-    let free : lits_at (clauses_of k.clauses) c.name ≡ None =
-    missed_before (look_of k) (lits_at (base ++ lemma_clauses k.lemmas)) c.name sound.carried (not_found_in_both base k.period f.core k.lemmas c.name new other sound.named) in
+    c.name.period < k.period → HoldsFormula cnf k → HoldsFormula cnf (with_added c k)
+added_holds cnf base f k c sound new before holds =
+    let free = added_free base f k c sound new before in
     finds_all-more (look_of k) (look_of (with_added c k)) (originals cnf) (finds_more-with (unused c) k.clauses free) holds
 
 -- a reason that isn't dropped still implies its literal
@@ -140,16 +161,15 @@ finds_less names held n lits is = by_name (is_among names n) (sym (lits_at-witho
 -- any clauses that are no reasons may be dropped
 pub dropped_sound : (base : List NamedClause) (f : CoreFrame) (k : CoreState) (names : List Name) → IsSound base f k → AreNoReasons names k.trail → IsSound base f (with_dropped names k)
 dropped_sound base f k names sound others = record {
-  found = found-without names k.clauses sound.found;
-  within = All-without (λ d. All (IsWithin f.variables) d.lits) names k.clauses sound.within;
-  fitting = record { distinct = sound.fitting.distinct; fits = reasons_stay names k.clauses k.trail others sound.fitting.fits; leveled = sound.fitting.leveled };
-  trail_within = sound.trail_within;
-  quiet = λ level low. all-without (λ c. IsQuiet (cut level k.trail) c.lits) names k.clauses (sound.quiet level low);
-  carried = λ n lits is. sound.carried n lits (finds_less names k.clauses n lits is);
-  fresh = sound.fresh;
-  named = sound.named;
-  derived = sound.derived;
-  none_empty = sound.none_empty;
+  holds = record {
+    found = found-without names k.clauses sound.holds.found;
+    within = All-without (λ d. All (IsWithin f.variables) d.lits) names k.clauses sound.holds.within;
+    fitting = record { distinct = sound.holds.fitting.distinct; fits = reasons_stay names k.clauses k.trail others sound.holds.fitting.fits; leveled = sound.holds.fitting.leveled };
+    trail_within = sound.holds.trail_within;
+    quiet = λ level low. all-without (λ c. IsQuiet (cut level k.trail) c.lits) names k.clauses (sound.holds.quiet level low);
+  };
+  derives = carried_sound base f k.period k.clauses (without_names names k.clauses) k.lemmas sound.derives
+      (λ n lits is. sound.derives.carried n lits (finds_less names k.clauses n lits is));
 }
 
 -- no original is among names that are none

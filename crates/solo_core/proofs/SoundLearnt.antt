@@ -25,7 +25,7 @@ use Rattle.lit_base.proofs.Cuts.{level_now-cut-le, cut_cut}
 use Rattle.lit_base.proofs.TwoOfLevel.{has_two}
 use Rattle.lit_base.proofs.HeldClauses.{clauses_of-with_uses, all-with, All-with, finds_more-with, found-with, finds_all-more, fitting-more}
 use Rattle.lit_base.proofs.Asserting.{lesson_asserting}
-use Rattle.solo_core.proofs.Derived.{derived_by_more, derived_one_more, named_one_more, nonempty_one_more, next_is_fresh}
+use Rattle.solo_core.proofs.Derived.{derived_by_more, derived_one_more, named_one_more, nonempty_one_more, within_one_more, next_is_fresh}
 use Rattle.solo_core.proofs.SoundSteps.{jumped_sound, uses_sound}
 use Rattle.solo_core.proofs.SoundClauses.{missed_before, carried_with}
 use Rattle.solo_core.specs.declared.lemma.Lemma.{Lemma}
@@ -57,7 +57,7 @@ held_lemma lemma = record { name = lemma.name; lits = lemma.lits; uses = 0 }
 -- the next name isn't found
 next_free : (base : List NamedClause) (f : CoreFrame) (k : CoreState) (lemma : Lemma) → IsSound base f k → lemma.name ≡ lemma_name k.period f.core (length k.lemmas) →
     lits_at (base ++ lemma_clauses k.lemmas) lemma.name ≡ None
-next_free base f k lemma sound is = ap (λ n. lits_at (base ++ lemma_clauses k.lemmas) n) is ∙ next_is_fresh base k.period f.core k.lemmas sound.fresh sound.named
+next_free base f k lemma sound is = ap (λ n. lits_at (base ++ lemma_clauses k.lemmas) n) is ∙ next_is_fresh base k.period f.core k.lemmas sound.derives.fresh sound.derives.named
 
 -- the state with the lemma, before its hints are counted
 abbrev with_lemma_held : Lemma → CoreState → CoreState
@@ -67,20 +67,25 @@ next_held : (base : List NamedClause) (f : CoreFrame) (k : CoreState) (lemma : L
 next_held base f k lemma sound next =
     let known = base ++ lemma_clauses k.lemmas in
     let new : lits_at known lemma.name ≡ None = next_free base f k lemma sound next.name in
-    let free : lits_at (clauses_of k.clauses) lemma.name ≡ None = missed_before (look_of k) (lits_at known) lemma.name sound.carried new in
+    let free : lits_at (clauses_of k.clauses) lemma.name ≡ None = missed_before (look_of k) (lits_at known) lemma.name sound.derives.carried new in
     let h = held_lemma lemma in
     record {
-      found = found-with h k.clauses free sound.found;
-      within = All-with (λ c. All (IsWithin f.variables) c.lits) h k.clauses next.within sound.within;
-      fitting = fitting-more (look_of k) (look_of (with_lemma_held lemma k)) k.trail (finds_more-with h k.clauses free) sound.fitting;
-      trail_within = sound.trail_within;
-      quiet = λ level low. all-with (λ c. IsQuiet (cut level k.trail) c.lits) h k.clauses (next.quiet level low) (sound.quiet level low);
-      carried = subst (λ cs. FindsMore (look_of (with_lemma_held lemma k)) (lits_at cs) (λ name. name)) (sym (lemma_clauses-more base k.lemmas lemma))
-          (carried_with h k.clauses known [] (subst (λ cs. FindsMore (look_of k) (lits_at cs) (λ name. name)) (sym (append_nothing known)) sound.carried) free new);
-      fresh = sound.fresh;
-      named = named_one_more k.period f.core 0 k.lemmas lemma sound.named (next.name ∙ ap (λ place. lemma_name k.period f.core place) (let e : length k.lemmas ≡ 0 + length k.lemmas = omega arith in e));
-      derived = derived_one_more base k.lemmas lemma sound.derived (derived_by_more (look_of k) (lits_at known) lemma sound.carried next.derived);
-      none_empty = nonempty_one_more k.lemmas lemma sound.none_empty next.literals;
+      holds = record {
+        found = found-with h k.clauses free sound.holds.found;
+        within = All-with (λ c. All (IsWithin f.variables) c.lits) h k.clauses next.within sound.holds.within;
+        fitting = fitting-more (look_of k) (look_of (with_lemma_held lemma k)) k.trail (finds_more-with h k.clauses free) sound.holds.fitting;
+        trail_within = sound.holds.trail_within;
+        quiet = λ level low. all-with (λ c. IsQuiet (cut level k.trail) c.lits) h k.clauses (next.quiet level low) (sound.holds.quiet level low);
+      };
+      derives = record {
+        carried = subst (λ cs. FindsMore (look_of (with_lemma_held lemma k)) (lits_at cs) (λ name. name)) (sym (lemma_clauses-more base k.lemmas lemma))
+            (carried_with h k.clauses known [] (subst (λ cs. FindsMore (look_of k) (lits_at cs) (λ name. name)) (sym (append_nothing known)) sound.derives.carried) free new);
+        fresh = sound.derives.fresh;
+        named = named_one_more k.period f.core 0 k.lemmas lemma sound.derives.named (next.name ∙ ap (λ place. lemma_name k.period f.core place) (let e : length k.lemmas ≡ 0 + length k.lemmas = omega arith in e));
+        derived = derived_one_more base k.lemmas lemma sound.derives.derived (derived_by_more (look_of k) (lits_at known) lemma sound.derives.carried next.derived);
+        none_empty = nonempty_one_more k.lemmas lemma sound.derives.none_empty next.literals;
+        lemmas_within = within_one_more f.variables k.lemmas lemma sound.derives.lemmas_within next.within;
+      };
     }
   where
     append_nothing : (cs : List NamedClause) → cs ++ [] ≡ cs
@@ -105,8 +110,8 @@ conflict_clause look trail conflict is = by_look (look conflict) refl is
 pub lesson_derived : (base : List NamedClause) (f : CoreFrame) (k : CoreState) (conflict : Name) → IsSound base f k → IsConflict (look_of k) k.trail conflict →
     IsDerived (look_of k) (lemma_of f k (lesson_of (look_of k) k.trail conflict))
 lesson_derived base f k conflict sound is = record {
-  found = hints_found (look_of k) k.trail conflict sound.fitting.fits is;
-  follows = lesson_follows (look_of k) k.trail conflict sound.fitting.distinct sound.fitting.fits is;
+  found = hints_found (look_of k) k.trail conflict sound.holds.fitting.fits is;
+  follows = lesson_follows (look_of k) k.trail conflict sound.holds.fitting.distinct sound.holds.fitting.fits is;
 }
 
 -- the literals of an asserting lesson are within the variables
@@ -128,7 +133,7 @@ lesson_next base f k lesson sound asserting derived = record {
   name = refl;
   derived = derived;
   literals = subst (λ lits. 1 ≤ length lits) (sym asserting.lits) (omega arith);
-  within = lesson_within f.variables k.trail lesson sound.trail_within asserting;
+  within = lesson_within f.variables k.trail lesson sound.holds.trail_within asserting;
   quiet = λ level low.
       let below : level < lesson.back = omega (arith, low, level_now-cut-le lesson.back k.trail) in
       subst (λ t. IsQuiet t lesson.lits) (sym (cut_cut level lesson.back k.trail (omega (arith, below)))) (asserting.quiet_before level below);
@@ -144,7 +149,7 @@ pub learnt_holds : (cnf : Cnf) (base : List NamedClause) (f : CoreFrame) (k : Co
 learnt_holds cnf base f k lesson sound holds =
     let lemma = lemma_of f k lesson in
     let known = base ++ lemma_clauses k.lemmas in
-    let free : lits_at (clauses_of k.clauses) lemma.name ≡ None = missed_before (look_of k) (lits_at known) lemma.name sound.carried (next_free base f k lemma sound refl) in
+    let free : lits_at (clauses_of k.clauses) lemma.name ≡ None = missed_before (look_of k) (lits_at known) lemma.name sound.derives.carried (next_free base f k lemma sound refl) in
     subst (λ cs. FindsAll (lits_at cs) (originals cnf)) (sym (clauses_of-with_uses lemma.hints (with_clause (held_lemma lemma) k.clauses)))
     (finds_all-more (look_of k) (lits_at (clauses_of (with_clause (held_lemma lemma) k.clauses))) (originals cnf) (finds_more-with (held_lemma lemma) k.clauses free) holds)
 
@@ -169,8 +174,8 @@ conflict_two base f k conflict lits sound is found above = by_level (level_now k
     by_level zero now high = absurd (omega (arith, high))
     by_level (suc n) now high =
         subst (λ m. HasTwoOfLevel k.trail m lits) (let e : n + 1 ≡ suc n = omega arith in e)
-        (has_two (look_of k) k.trail n lits sound.fitting (now ∙ (let e : suc n ≡ n + 1 = omega arith in e)) falsified
-        (found_of_all (λ ls. IsQuiet (cut n k.trail) ls) (clauses_of k.clauses) conflict lits (sound.quiet n (omega (arith, now))) found))
+        (has_two (look_of k) k.trail n lits sound.holds.fitting (now ∙ (let e : suc n ≡ n + 1 = omega arith in e)) falsified
+        (found_of_all (λ ls. IsQuiet (cut n k.trail) ls) (clauses_of k.clauses) conflict lits (sound.holds.quiet n (omega (arith, now))) found))
 
 -- the lesson of a conflict above level 0 is asserting
 pub conflict_asserting : (base : List NamedClause) (f : CoreFrame) (k : CoreState) (conflict : Name) → IsSound base f k → IsConflict (look_of k) k.trail conflict → 0 < level_now k.trail →
@@ -178,4 +183,4 @@ pub conflict_asserting : (base : List NamedClause) (f : CoreFrame) (k : CoreStat
 conflict_asserting base f k conflict sound is above =
     let clause = conflict_clause (look_of k) k.trail conflict is in
     let two = conflict_two base f k conflict clause.0 sound is clause.1 above in
-    lesson_asserting (look_of k) k.trail conflict clause.0 two.first sound.fitting clause.1 above two.first_there two.first_level
+    lesson_asserting (look_of k) k.trail conflict clause.0 two.first sound.holds.fitting clause.1 above two.first_there two.first_level

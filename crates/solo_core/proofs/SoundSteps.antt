@@ -16,10 +16,11 @@ use Rattle.lit_base.proofs.PropagationFits.{propagation_fits}
 use Rattle.lit_base.proofs.TrailWithin.{cut_within, propagate_within}
 use Rattle.lit_base.proofs.Cuts.{cut_fitting, level_now-cut-le, level_now-cut-mono, cut_cut, cut_itself, cut_propagated}
 use Rattle.lit_base.proofs.FixIsQuiet.{fix_quiet}
+use Rattle.solo_core.specs.declared.lemma.Lemma.{Lemma}
 use Rattle.solo_core.specs.State.{CoreFrame, CoreState, lemma_clauses}
 use Rattle.solo_core.specs.Turn.{look_of, propagated, decided, jumped}
 use Rattle.solo_core.specs.Changes.{after_propagation, with_clauses}
-use Rattle.solo_core.specs.Soundness.{IsSound}
+use Rattle.solo_core.specs.Soundness.{IsDeriving, IsSound}
 
 -- the trail after propagation
 abbrev propagated_trail : CoreFrame → CoreState → List Entry
@@ -30,23 +31,21 @@ quiet_below_propagated : (base : List NamedClause) (f : CoreFrame) (k : CoreStat
     AreQuietBelow (propagated_trail f k) (clauses_of k.clauses)
 quiet_below_propagated base f k sound same level low =
     let below : level < level_now k.trail = omega (arith, same) in
-    subst (λ t. AreQuiet t (clauses_of k.clauses)) (sym (cut_propagated f.variables level (clauses_of k.clauses) k.trail below)) (sound.quiet level below)
+    subst (λ t. AreQuiet t (clauses_of k.clauses)) (sym (cut_propagated f.variables level (clauses_of k.clauses) k.trail below)) (sound.holds.quiet level below)
 
 -- propagation keeps what is sound
 pub propagated_sound : (base : List NamedClause) (f : CoreFrame) (k : CoreState) → IsSound base f k → IsSound base f (after_propagation f k)
 propagated_sound base f k sound =
-    let fits = propagation_fits (look_of k) f.variables (clauses_of k.clauses) k.trail sound.found sound.fitting in
+    let fits = propagation_fits (look_of k) f.variables (clauses_of k.clauses) k.trail sound.holds.found sound.holds.fitting in
     record {
-      found = sound.found;
-      within = sound.within;
-      fitting = fits.fitting;
-      trail_within = propagate_within f.variables f.variables (clauses_of k.clauses) k.trail sound.within sound.trail_within;
-      quiet = quiet_below_propagated base f k sound fits.level;
-      carried = sound.carried;
-      fresh = sound.fresh;
-      named = sound.named;
-      derived = sound.derived;
-      none_empty = sound.none_empty;
+      holds = record {
+        found = sound.holds.found;
+        within = sound.holds.within;
+        fitting = fits.fitting;
+        trail_within = propagate_within f.variables f.variables (clauses_of k.clauses) k.trail sound.holds.within sound.holds.trail_within;
+        quiet = quiet_below_propagated base f k sound fits.level;
+      };
+      derives = sound.derives;
     }
 
 -- below a decision the trail is the one before it, which is quiet, or cut to a lower level
@@ -67,49 +66,56 @@ pub decided_sound : (base : List NamedClause) (f : CoreFrame) (k : CoreState) (l
 decided_sound base f k l sound none within free =
     let moved = propagated_sound base f k sound in
     record {
-      found = sound.found;
-      within = sound.within;
-      fitting = record { distinct = (free, moved.fitting.distinct); fits = (tt, moved.fitting.fits); leveled = (refl, moved.fitting.leveled) };
-      trail_within = (within, moved.trail_within);
-      quiet = quiet_below_decision l (propagated_trail f k) (clauses_of k.clauses) (fix_quiet f.variables (clauses_of k.clauses) k.trail sound.within none) moved.quiet;
-      carried = sound.carried;
-      fresh = sound.fresh;
-      named = sound.named;
-      derived = sound.derived;
-      none_empty = sound.none_empty;
+      holds = record {
+        found = sound.holds.found;
+        within = sound.holds.within;
+        fitting = record { distinct = (free, moved.holds.fitting.distinct); fits = (tt, moved.holds.fitting.fits); leveled = (refl, moved.holds.fitting.leveled) };
+        trail_within = (within, moved.holds.trail_within);
+        quiet = quiet_below_decision l (propagated_trail f k) (clauses_of k.clauses) (fix_quiet f.variables (clauses_of k.clauses) k.trail sound.holds.within none) moved.holds.quiet;
+      };
+      derives = sound.derives;
     }
 
 quiet_below_cut : (base : List NamedClause) (f : CoreFrame) (k : CoreState) (level : ℕ) → IsSound base f k → AreQuietBelow (cut level k.trail) (clauses_of k.clauses)
 quiet_below_cut base f k level sound lower low =
     subst (λ t. AreQuiet t (clauses_of k.clauses)) (sym (cut_cut lower level k.trail (omega (arith, low, level_now-cut-le level k.trail))))
-    (sound.quiet lower (omega (arith, low, level_now-cut-mono level k.trail sound.fitting.leveled)))
+    (sound.holds.quiet lower (omega (arith, low, level_now-cut-mono level k.trail sound.holds.fitting.leveled)))
 
 -- a jump keeps what is sound
 pub jumped_sound : (base : List NamedClause) (f : CoreFrame) (k : CoreState) (level : ℕ) → IsSound base f k → IsSound base f (jumped level k)
 jumped_sound base f k level sound = record {
-  found = sound.found;
-  within = sound.within;
-  fitting = cut_fitting (look_of k) level k.trail sound.fitting;
-  trail_within = cut_within f.variables level k.trail sound.trail_within;
-  quiet = quiet_below_cut base f k level sound;
-  carried = sound.carried;
-  fresh = sound.fresh;
-  named = sound.named;
-  derived = sound.derived;
-  none_empty = sound.none_empty;
+  holds = record {
+    found = sound.holds.found;
+    within = sound.holds.within;
+    fitting = cut_fitting (look_of k) level k.trail sound.holds.fitting;
+    trail_within = cut_within f.variables level k.trail sound.holds.trail_within;
+    quiet = quiet_below_cut base f k level sound;
+  };
+  derives = sound.derives;
+}
+
+-- the lemmas of the period derive as before where what is held now was known too
+pub carried_sound : (base : List NamedClause) (f : CoreFrame) (period : ℕ) (before after : List HeldClause) (lemmas : List Lemma) → IsDeriving base f period before lemmas →
+    FindsMore (lits_at (clauses_of after)) (lits_at (base ++ lemma_clauses lemmas)) (λ name. name) → IsDeriving base f period after lemmas
+carried_sound base f period before after lemmas derives carried = record {
+  carried = carried;
+  fresh = derives.fresh;
+  named = derives.named;
+  derived = derives.derived;
+  none_empty = derives.none_empty;
+  lemmas_within = derives.lemmas_within;
 }
 
 -- the same clauses with other uses
 pub uses_sound : (base : List NamedClause) (f : CoreFrame) (k : CoreState) (held : List HeldClause) → IsSound base f k → clauses_of held ≡ clauses_of k.clauses → IsSound base f (with_clauses held k)
 uses_sound base f k held sound same = record {
-  found = subst (λ cs. FindsAll (lits_at cs) cs) (sym same) sound.found;
-  within = subst (λ cs. All (λ c. All (IsWithin f.variables) c.lits) cs) (sym same) sound.within;
-  fitting = subst (λ cs. IsFitting (lits_at cs) k.trail) (sym same) sound.fitting;
-  trail_within = sound.trail_within;
-  quiet = subst (λ cs. AreQuietBelow k.trail cs) (sym same) sound.quiet;
-  carried = subst (λ cs. FindsMore (lits_at cs) (lits_at (base ++ lemma_clauses k.lemmas)) (λ name. name)) (sym same) sound.carried;
-  fresh = sound.fresh;
-  named = sound.named;
-  derived = sound.derived;
-  none_empty = sound.none_empty;
+  holds = record {
+    found = subst (λ cs. FindsAll (lits_at cs) cs) (sym same) sound.holds.found;
+    within = subst (λ cs. All (λ c. All (IsWithin f.variables) c.lits) cs) (sym same) sound.holds.within;
+    fitting = subst (λ cs. IsFitting (lits_at cs) k.trail) (sym same) sound.holds.fitting;
+    trail_within = sound.holds.trail_within;
+    quiet = subst (λ cs. AreQuietBelow k.trail cs) (sym same) sound.holds.quiet;
+  };
+  derives = carried_sound base f k.period k.clauses held k.lemmas sound.derives
+      (subst (λ cs. FindsMore (lits_at cs) (lits_at (base ++ lemma_clauses k.lemmas)) (λ name. name)) (sym same) sound.derives.carried);
 }

@@ -1,9 +1,9 @@
 -- What a turn, a search and a stretch keep and leave.
-use Rattle.std.proofs.Common.{◌≡◌, ℕ, zero, suc, ◌==◌, ◌+◌, ◌<◌, Bool, true, false, cond, List, [], ◌∷◌, ◌++◌, All, refl, ap, subst, arith}
+use Rattle.std.proofs.Common.{◌≡◌, ℕ, zero, suc, ◌==◌, ◌+◌, ◌<◌, Bool, true, false, cond, List, [], ◌∷◌, ◌++◌, All, refl, ap, sym, subst, arith}
 use Rattle.std.specs.Prelude.{Option, Some, None, option_map, IsTrue, length}
 use Rattle.std.specs.List.{AllByRecursion}
 use Rattle.std.proofs.lemmas.Bool.{cond_both, eqb-true, eqb-false}
-use Rattle.std.proofs.lemmas.List.Elements.{All-head, All-tail}
+use Rattle.std.proofs.lemmas.List.Elements.{All-head, All-nil, All-tail}
 use Rattle.lit_base.specs.Literal.{Literal, IsWithin}
 use Rattle.lit_base.specs.Cnf.{Cnf}
 use Rattle.lit_base.specs.Truth.{is_clause_true}
@@ -21,7 +21,7 @@ use Rattle.lit_base.proofs.PropagationFits.{propagation_fits}
 use Rattle.lit_base.proofs.FixIsQuiet.{fix_quiet}
 use Rattle.lit_base.proofs.RootLesson.{root_lesson_empty}
 use Rattle.lit_base.proofs.FreeVariables.{first_free-some, first_free-none}
-use Rattle.solo_core.proofs.Derived.{derived_by_more, derived_one_more, named_one_more}
+use Rattle.solo_core.proofs.Derived.{derived_by_more, derived_one_more, named_one_more, within_one_more}
 use Rattle.solo_core.proofs.SoundSteps.{propagated_sound, decided_sound, jumped_sound}
 use Rattle.solo_core.proofs.SoundLearnt.{lesson_derived, learnt_sound, learnt_holds, conflict_two, conflict_asserting}
 use Rattle.solo_core.specs.State.{CoreFrame, CoreState, lemma_name, lemma_clauses}
@@ -30,7 +30,7 @@ use Rattle.solo_core.specs.declared.turn.TurnEnd.{TurnEnd}
 use Rattle.solo_core.specs.declared.turn.TurnEnd.TheVariants.{Decided, Learnt, Refuted, Modelled}
 use Rattle.solo_core.specs.Stretch.{Stretched, after_turn, search, ended_at_root, after_search, searches, stretch}
 use Rattle.solo_core.specs.Changes.{after_propagation}
-use Rattle.solo_core.specs.Soundness.{AreDerived, AreNamed, IsSound, EndsEmpty, IsModelFound, HoldsFormula}
+use Rattle.solo_core.specs.Soundness.{AreDerived, AreNamed, AreLemmasWithin, IsSound, EndsEmpty, IsModelFound, HoldsFormula}
 use Rattle.solo_core.specs.declared.sheet.End.{End}
 use Rattle.solo_core.specs.declared.sheet.End.TheVariants.{Quota, Sat, Unsat, Spent}
 
@@ -38,6 +38,7 @@ use Rattle.solo_core.specs.declared.sheet.End.TheVariants.{Quota, Sat, Unsat, Sp
 pub record IsRefuted (base : List NamedClause) (f : CoreFrame) (k : CoreState) : Type 0 where
   pub derived : AreDerived base k.lemmas
   pub named : AreNamed k.period f.core 0 k.lemmas
+  pub lemmas_within : AreLemmasWithin f.variables k.lemmas
   pub ends : EndsEmpty k.lemmas
 
 -- what a turn leaves, by what it came to
@@ -72,9 +73,9 @@ chosen_kept : (base : List NamedClause) (f : CoreFrame) (k : CoreState) → IsSo
 chosen_kept base f k sound none None full =
     let moved = propagated_sound base f k sound in
     let is : is_full f.variables (propagated f k).trail ≡ true = first_free-none f.variables (propagated f k).trail full in
-    let quiet = fix_quiet f.variables (clauses_of k.clauses) k.trail sound.within none in
+    let quiet = fix_quiet f.variables (clauses_of k.clauses) k.trail sound.holds.within none in
     record {
-      sound = (moved, record { full = is; satisfied = clauses_true f.variables (propagated f k).trail (clauses_of k.clauses) is sound.within quiet });
+      sound = (moved, record { full = is; satisfied = clauses_true f.variables (propagated f k).trail (clauses_of k.clauses) is sound.holds.within quiet });
       formulas = λ cnf holds. holds;
     }
 chosen_kept base f k sound none (Some v) found =
@@ -90,11 +91,13 @@ refuted_sound : (base : List NamedClause) (f : CoreFrame) (k : CoreState) (confl
 refuted_sound base f k conflict sound is root =
     let lesson = lesson_of (look_of k) k.trail conflict in
     let lemma = lemma_of f k lesson in
+    let empty : lesson.lits ≡ [] = root_lesson_empty (look_of k) k.trail conflict sound.holds.fitting.leveled root in
     record {
-      derived = derived_one_more base k.lemmas lemma sound.derived
-          (derived_by_more (look_of k) (lits_at (base ++ lemma_clauses k.lemmas)) lemma sound.carried (lesson_derived base f k conflict sound is));
-      named = named_one_more k.period f.core 0 k.lemmas lemma sound.named (ap (λ place. lemma_name k.period f.core place) (let e : length k.lemmas ≡ 0 + length k.lemmas = omega arith in e));
-      ends = record { earlier = k.lemmas; last = lemma; split = refl; empty = root_lesson_empty (look_of k) k.trail conflict sound.fitting.leveled root; none_before = sound.none_empty };
+      derived = derived_one_more base k.lemmas lemma sound.derives.derived
+          (derived_by_more (look_of k) (lits_at (base ++ lemma_clauses k.lemmas)) lemma sound.derives.carried (lesson_derived base f k conflict sound is));
+      named = named_one_more k.period f.core 0 k.lemmas lemma sound.derives.named (ap (λ place. lemma_name k.period f.core place) (let e : length k.lemmas ≡ 0 + length k.lemmas = omega arith in e));
+      lemmas_within = within_one_more f.variables k.lemmas lemma sound.derives.lemmas_within (subst (λ lits. All (IsWithin f.variables) lits) (sym empty) (All-nil (IsWithin f.variables)));
+      ends = record { earlier = k.lemmas; last = lemma; split = refl; empty = empty; none_before = sound.derives.none_empty };
     }
 
 -- what a conflict leaves
@@ -114,7 +117,7 @@ taught_kept base f k conflict sound is =
 pub propagated_conflict : (base : List NamedClause) (f : CoreFrame) (k : CoreState) (conflict : Name) → IsSound base f k → (propagated f k).conflict ≡ Some conflict →
     IsConflict (look_of k) (propagated f k).trail conflict
 propagated_conflict base f k conflict sound is =
-    subst (λ o. IsAnswer (look_of k) (propagated f k).trail o) is (propagation_fits (look_of k) f.variables (clauses_of k.clauses) k.trail sound.found sound.fitting).conflict
+    subst (λ o. IsAnswer (look_of k) (propagated f k).trail o) is (propagation_fits (look_of k) f.variables (clauses_of k.clauses) k.trail sound.holds.found sound.holds.fitting).conflict
 
 turn_by_kept : (base : List NamedClause) (f : CoreFrame) (k : CoreState) → IsSound base f k → (o : Option Name) → (propagated f k).conflict ≡ o →
     IsTurnKept base f k (turn_by f (after_propagation f k) o)

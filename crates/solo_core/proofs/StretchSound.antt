@@ -16,21 +16,27 @@ use Rattle.solo_core.proofs.SoundLearnt.{found_of_all}
 use Rattle.solo_core.proofs.SoundStretch.{IsEndSound, stretch_kept}
 use Rattle.solo_core.specs.State.{CoreFrame, CoreState}
 use Rattle.solo_core.specs.Stretch.{stretch}
-use Rattle.solo_core.specs.Soundness.{AreDerived, AreNamed, IsSound, EndsEmpty, IsModelFound, HoldsFormula}
+use Rattle.solo_core.specs.Soundness.{AreDerived, AreNamed, AreLemmasWithin, IsSound, EndsEmpty, IsModelFound, HoldsFormula}
 use Rattle.solo_core.specs.declared.sheet.End.{End}
 use Rattle.solo_core.specs.declared.sheet.End.TheVariants.{Quota, Sat, Unsat, Spent}
 
 derived_at : (base : List NamedClause) (f : CoreFrame) (k : CoreState) (e : End) → IsEndSound base f k e → AreDerived base k.lemmas
-derived_at base f k Quota is = is.derived
-derived_at base f k Spent is = is.derived
-derived_at base f k Sat is = is.0.derived
+derived_at base f k Quota is = is.derives.derived
+derived_at base f k Spent is = is.derives.derived
+derived_at base f k Sat is = is.0.derives.derived
 derived_at base f k Unsat is = is.derived
 
 named_at : (base : List NamedClause) (f : CoreFrame) (k : CoreState) (e : End) → IsEndSound base f k e → AreNamed k.period f.core 0 k.lemmas
-named_at base f k Quota is = is.named
-named_at base f k Spent is = is.named
-named_at base f k Sat is = is.0.named
+named_at base f k Quota is = is.derives.named
+named_at base f k Spent is = is.derives.named
+named_at base f k Sat is = is.0.derives.named
 named_at base f k Unsat is = is.named
+
+within_at : (base : List NamedClause) (f : CoreFrame) (k : CoreState) (e : End) → IsEndSound base f k e → AreLemmasWithin f.variables k.lemmas
+within_at base f k Quota is = is.derives.lemmas_within
+within_at base f k Spent is = is.derives.lemmas_within
+within_at base f k Sat is = is.0.derives.lemmas_within
+within_at base f k Unsat is = is.lemmas_within
 
 empty_at : (base : List NamedClause) (f : CoreFrame) (k : CoreState) (e : End) → IsEndSound base f k e → e ≡ Unsat → EndsEmpty k.lemmas
 empty_at base f k Quota is same = cc
@@ -60,6 +66,11 @@ pub stretch_named : (base : List NamedClause) (f : CoreFrame) (quota : ℕ) (k :
 stretch_named base f quota k sound =
     let s = stretch f quota k in
     subst (λ period. AreNamed period f.core 0 s.state.lemmas) (conflicts_counted f quota k).period (named_at base f s.state s.ended (stretch_kept base f quota k sound).sound)
+
+-- their literals are within the variables
+pub stretch_within : (base : List NamedClause) (f : CoreFrame) (quota : ℕ) (k : CoreState) → IsSound base f k → AreLemmasWithin f.variables (stretch f quota k).state.lemmas
+stretch_within base f quota k sound =
+    let s = stretch f quota k in within_at base f s.state s.ended (stretch_kept base f quota k sound).sound
 
 -- at Unsat the last lemma, and no earlier one, is empty
 pub stretch_empty : (base : List NamedClause) (f : CoreFrame) (quota : ℕ) (k : CoreState) → IsSound base f k → (stretch f quota k).ended ≡ Unsat → EndsEmpty (stretch f quota k).state.lemmas

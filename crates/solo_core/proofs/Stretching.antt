@@ -36,7 +36,7 @@ pub searched_quiet : (s after : SearchState) (e : TurnEnd) → IsReady s → aft
     (e ≡ Refuted → ⊥) → AreQuietBelow after.state.trail (clauses_of after.state.clauses)
 searched_quiet s after e ready is end other =
     subst (λ (t : SearchState). AreQuietBelow t.state.trail (clauses_of t.state.clauses)) (sym is)
-    (searched_sound ready.base s.frame s.state ready.sound (λ refutes. other (end ∙ refutes))).quiet
+    (searched_sound ready.base s.frame s.state ready.sound (λ refutes. other (end ∙ refutes))).holds.quiet
 
 -- what the searches so far leave: the search is ready, and the searches to come end where the whole stretch ends
 pub record IsStretching (f : CoreFrame) (whole : Stretched) (left : ℕ) (s : SearchState) : Type 0 where

@@ -1,12 +1,15 @@
 -- A core, as contracts see it.
-use Rattle.std.specs.Prelude.{ℕ, Bool, true, false, List, [], Option, Some, None}
+use Rattle.std.specs.Prelude.{ℕ, ◌≡◌, ◌≢◌, ⊤, Bool, true, false, List, [], Option, Some, None}
 use Rattle.lit_base.specs.Cnf.{Cnf}
+use Rattle.lit_base.specs.Trail.{level_now}
 use Rattle.lit_base.specs.Rounds.{NamedClause}
 use Rattle.solo_core.specs.State.{CoreFrame, CoreState, first_state}
 use Rattle.solo_core.specs.Stretch.{stretch}
+use Rattle.solo_core.specs.Period.{in_next_period, NoneOfOthers}
 use Rattle.solo_core.specs.Soundness.{IsSound}
 use Rattle.solo_core.specs.SearchState.{SearchState, IsJoined}
 use Rattle.solo_core.specs.declared.sheet.End.{End}
+use Rattle.solo_core.specs.declared.sheet.End.TheVariants.{Quota, Sat, Unsat, Spent}
 use Rattle.solo_core.specs.declared.sheet.Settings.{Settings}
 
 -- what never changes of a core, what it has, how its stretch of this period ended, if one was made, whether its sheet was
@@ -37,8 +40,35 @@ after_stretch quota c =
 abbrev pub after_sheet : CoreValue → CoreValue
 after_sheet c = record c { state = record c.state { lemmas = [] }; is_handed = true }
 
--- its search is sound, and its parts are joined
-pub record IsSearchable (s : SearchState) : Type 0 where
+-- a search at the start of a period: it is sound, at level 0, and its parts are joined
+pub record IsOpen (s : SearchState) : Type 0 where
   pub base : List NamedClause
   pub sound : IsSound base s.frame s.state
+  pub root : level_now s.state.trail ≡ 0
   pub joined : IsJoined s
+
+-- what the search of a period that is over needs for the next: over what is known by then it is sound there, and no
+-- clause of another core has come in the period
+pub record IsSoundNext (s : SearchState) : Type 0 where
+  pub base : List NamedClause
+  pub sound : IsSound base s.frame (in_next_period s.state)
+  pub others : NoneOfOthers base s.state.period s.frame.core
+
+-- an end that leaves more to search
+abbrev pub GoesOn : End → Type 0
+GoesOn Quota = ⊤
+GoesOn Spent = ⊤
+GoesOn Sat = ⊥
+GoesOn Unsat = ⊥
+
+-- a search whose stretch of the period ended so: unless it refuted it is sound for the next period, and without an
+-- answer it is at level 0
+pub record IsEnded (s : SearchState) (ended : End) : Type 0 where
+  pub sound : ended ≢ Unsat → IsSoundNext s
+  pub root : GoesOn ended → level_now s.state.trail ≡ 0
+  pub joined : IsJoined s
+
+-- what the search of a core keeps, before the stretch of a period and after it
+abbrev pub IsKept : SearchState → Option End → Type 0
+IsKept s None = IsOpen s
+IsKept s (Some ended) = IsEnded s ended

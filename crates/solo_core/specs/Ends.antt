@@ -1,6 +1,7 @@
 -- By which rule a stretch ends.
 use Rattle.std.specs.Prelude.{ℕ, ◌+◌, ◌<◌, ◌≤◌, ◌≡◌, length}
 use Rattle.lit_base.specs.Trail.{level_now}
+use Rattle.lit_base.specs.Held.{volume_of}
 use Rattle.solo_core.specs.State.{CoreFrame, CoreState}
 use Rattle.solo_core.specs.declared.sheet.End.{End}
 use Rattle.solo_core.specs.declared.sheet.End.TheVariants.{Quota, Sat, Unsat, Spent}
@@ -22,3 +23,5 @@ pub record CountsConflicts (before after : CoreState) : Type 0 where
   pub in_period : after.period_conflicts + before.conflicts ≡ before.period_conflicts + after.conflicts
   pub lemmas : length after.lemmas + before.conflicts ≡ length before.lemmas + after.conflicts
   pub period : after.period ≡ before.period
+  -- and the held clauses that are no originals are more by no more than that
+  pub volume : volume_of after.clauses + before.conflicts ≤ volume_of before.clauses + after.conflicts

@@ -4,6 +4,7 @@ pub mod Stretch
 pub mod Sheet
 pub mod Soundness
 pub mod Changes
+pub mod Period
 pub mod Ends
 pub mod Log
 pub mod SearchState

@@ -1,5 +1,5 @@
--- What holds of a core between two turns, and what a stretch leaves. `base` are the clauses that the core held when the
--- period began: originals, clauses that were imported, and lemmas of its own earlier periods.
+-- What holds of a core between two turns, and what a stretch leaves. `base` are the clauses that were known when the
+-- period began: originals, and lemmas of earlier periods, of this core and of those whose clauses it imported.
 use Rattle.std.specs.Prelude.{ℕ, ◌+◌, ◌≤◌, ◌≡◌, ⊤, IsTrue, IsSome, Bool, All, List, [], ◌∷◌, ◌++◌, length, Option, None}
 use Rattle.std.specs.List.{AllByRecursion}
 use Rattle.lit_base.specs.Literal.{Literal, IsWithin}
@@ -8,10 +8,11 @@ use Rattle.lit_base.specs.Truth.{is_clause_true}
 use Rattle.lit_base.specs.Trail.{is_full, model_of}
 use Rattle.lit_base.specs.Rounds.{NamedClause, originals}
 use Rattle.lit_base.specs.Named.{lits_at}
-use Rattle.lit_base.specs.Held.{clauses_of}
+use Rattle.lit_base.specs.Held.{HeldClause, clauses_of}
 use Rattle.lit_base.specs.Walk.{FollowsByHints, FindsMore}
 use Rattle.lit_base.specs.Fits.{FindsAll, IsFitting}
 use Rattle.lit_base.specs.Quiet.{AreQuietBelow}
+use Rattle.lit_base.specs.declared.trail.Entry.{Entry}
 use Rattle.lit_base.specs.declared.name.Name.{Name}
 use Rattle.solo_core.specs.declared.lemma.Lemma.{Lemma}
 use Rattle.solo_core.specs.State.{CoreFrame, CoreState, lemma_name, lemma_clause, lemma_clauses}
@@ -37,24 +38,42 @@ AreNamed period core place (lemma ∷ later) =
 abbrev pub HasLiterals : Lemma → Type 0
 HasLiterals lemma = 1 ≤ length lemma.lits
 
--- what holds of a core between two turns
-pub record IsSound (base : List NamedClause) (f : CoreFrame) (k : CoreState) : Type 0 where
+-- the literals of the lemmas are within the variables
+abbrev pub AreLemmasWithin : ℕ → List Lemma → Type 0
+AreLemmasWithin variables lemmas = AllByRecursion (λ lemma. All (IsWithin variables) lemma.lits) lemmas
+
+-- what holds of the clauses that a core holds, and of its trail
+pub record IsHolding (variables : ℕ) (clauses : List HeldClause) (trail : List Entry) : Type 0 where
   -- each held clause is found under its name, and its literals are within the variables
-  pub found : FindsAll (look_of k) (clauses_of k.clauses)
-  pub within : All (λ c. All (IsWithin f.variables) c.lits) (clauses_of k.clauses)
+  pub found : FindsAll (lits_at (clauses_of clauses)) (clauses_of clauses)
+  pub within : All (λ c. All (IsWithin variables) c.lits) (clauses_of clauses)
   -- the trail fits the held clauses, its literals are within the variables, and at no lower level a held clause was
   -- left unit or falsified
-  pub fitting : IsFitting (look_of k) k.trail
-  pub trail_within : AllByRecursion (λ e. IsWithin f.variables e.lit) k.trail
-  pub quiet : AreQuietBelow k.trail (clauses_of k.clauses)
-  -- what is held was held when the period began, or is a lemma of the period
-  pub carried : FindsMore (look_of k) (lits_at (base ++ lemma_clauses k.lemmas)) (λ name. name)
-  -- no clause that was held then has a name of this period and core
-  pub fresh : (place : ℕ) → lits_at base (lemma_name k.period f.core place) ≡ None
-  -- the lemmas of the period have the next names, are derived from what was held then, and none is empty
-  pub named : AreNamed k.period f.core 0 k.lemmas
-  pub derived : AreDerived base k.lemmas
-  pub none_empty : AllByRecursion HasLiterals k.lemmas
+  pub fitting : IsFitting (lits_at (clauses_of clauses)) trail
+  pub trail_within : AllByRecursion (λ e. IsWithin variables e.lit) trail
+  pub quiet : AreQuietBelow trail (clauses_of clauses)
+
+-- none of the clauses has a name of this period or a later one, of any core
+abbrev pub NoneFrom : List NamedClause → ℕ → Type 0
+NoneFrom clauses period = (name : Name) → period ≤ name.period → lits_at clauses name ≡ None
+
+-- what holds of the lemmas of a period, over the clauses that were known when it began
+pub record IsDeriving (base : List NamedClause) (f : CoreFrame) (period : ℕ) (clauses : List HeldClause) (lemmas : List Lemma) : Type 0 where
+  -- what is held was known when the period began, or is a lemma of the period
+  pub carried : FindsMore (lits_at (clauses_of clauses)) (lits_at (base ++ lemma_clauses lemmas)) (λ name. name)
+  -- no clause that was known then has a name of this period or a later one
+  pub fresh : NoneFrom base period
+  -- the lemmas have the next names, are derived from what was known then, and none is empty
+  pub named : AreNamed period f.core 0 lemmas
+  pub derived : AreDerived base lemmas
+  pub none_empty : AllByRecursion HasLiterals lemmas
+  -- their literals are within the variables
+  pub lemmas_within : AreLemmasWithin f.variables lemmas
+
+-- what holds of a core between two turns
+pub record IsSound (base : List NamedClause) (f : CoreFrame) (k : CoreState) : Type 0 where
+  pub holds : IsHolding f.variables k.clauses k.trail
+  pub derives : IsDeriving base f k.period k.clauses k.lemmas
 
 -- the last lemma, and no earlier one, is empty
 pub record EndsEmpty (lemmas : List Lemma) : Type 0 where

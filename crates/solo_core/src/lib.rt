@@ -9,7 +9,7 @@
 pub use changes::{
     law_any_clause_may_be_added, law_any_clause_may_be_dropped,
     law_any_free_variable_may_be_decided, law_any_jump_may_be_made, law_derived_from_more,
-    law_uses_may_change,
+    law_import_keeps_soundness, law_period_may_end, law_uses_may_change,
 };
 pub use ends::{law_spent_core_does_nothing, law_stretch_ends_by_rule, law_turns_suffice};
 pub use examples::{

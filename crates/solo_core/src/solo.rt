@@ -25,8 +25,8 @@ pub struct Core {
 }
 
 impl Model for Core {
-    ghost use Rattle.std.specs.Prelude.{◌≡◌, None, false};
-    ghost use Rattle.solo_core.specs.CoreValue.{CoreValue, IsSearchable};
+    ghost use Rattle.std.specs.Prelude.{◌≡◌, false};
+    ghost use Rattle.solo_core.specs.CoreValue.{CoreValue, IsKept};
 
     ghost Value = { CoreValue };
 
@@ -38,7 +38,7 @@ impl Model for Core {
       is_broken = c.is_broken;
     } };
 
-    ghost invariant = { λ c. c.is_broken ≡ false → c.ended ≡ None → IsSearchable c.search };
+    ghost invariant = { λ c. c.is_broken ≡ false → IsKept c.search c.ended };
 }
 
 impl Core {

@@ -5,11 +5,11 @@ use crate::{
     Core, End, Lemma, Mail, Posted, Settings, Sheet, law_any_clause_may_be_added,
     law_any_clause_may_be_dropped, law_any_free_variable_may_be_decided, law_any_jump_may_be_made,
     law_conflict_asserts, law_derived_from_more, law_derived_lemmas_are_true,
-    law_derived_lemmas_check, law_first_state_is_sound, law_jump_to_level_one,
-    law_last_value_is_kept, law_model_satisfies_formula, law_root_reason_is_a_hint,
-    law_spent_core_does_nothing, law_square_is_given_up_at_the_limit, law_square_is_refuted,
-    law_stretch_ends_by_rule, law_stretch_is_sound, law_turn_keeps_soundness, law_turns_suffice,
-    law_uses_may_change,
+    law_derived_lemmas_check, law_first_state_is_sound, law_import_keeps_soundness,
+    law_jump_to_level_one, law_last_value_is_kept, law_model_satisfies_formula, law_period_may_end,
+    law_root_reason_is_a_hint, law_spent_core_does_nothing, law_square_is_given_up_at_the_limit,
+    law_square_is_refuted, law_stretch_ends_by_rule, law_stretch_is_sound,
+    law_turn_keeps_soundness, law_turns_suffice, law_uses_may_change,
 };
 use lit_base::{Clause, Formula, List, Lit, Model, Name, NoMemory};
 use std::alloc::Global;
@@ -193,6 +193,8 @@ fn laws_can_be_called(_rt: HostRuntime) {
     law_any_clause_may_be_dropped();
     law_any_clause_may_be_added();
     law_uses_may_change();
+    law_period_may_end();
+    law_import_keeps_soundness();
     law_derived_from_more();
     law_turns_suffice();
     law_spent_core_does_nothing();

@@ -40,7 +40,7 @@ hold_lemma-requires-clause-few c =
 pub hold_lemma-requires-clause-attached : goal.hold_lemma-requires-clause-attached
 hold_lemma-requires-clause-attached c =
     let ready : IsReady (the_view c.self.inside) = subst IsReady (sym c.self.view_is) c.requires.ready in
-    c.jump_back.ensures.attached c.self.inside.pool ready.joined.attached ready.sound.quiet
+    c.jump_back.ensures.attached c.self.inside.pool ready.joined.attached ready.sound.holds.quiet
 
 -- the parts fit one another
 pub returns-clause-joined : goal.returns-clause-joined
