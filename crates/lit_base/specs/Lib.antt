@@ -1,4 +1,5 @@
 pub mod Literal
+pub mod LitSet
 pub mod Truth
 pub mod Cnf
 pub mod Distinct

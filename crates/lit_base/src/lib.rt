@@ -21,6 +21,7 @@ pub use laws::trail::{law_full_trail_satisfies, law_jump_fits, law_model_has_eac
 pub use lesson::Lesson;
 pub use list::List;
 pub use lit::{Lit, MOST_VARIABLES};
+pub use lit_set::LitSet;
 pub use memory::NoMemory;
 pub use model::Model;
 pub use name::Name;
@@ -34,6 +35,7 @@ mod laws;
 mod lesson;
 mod list;
 mod lit;
+mod lit_set;
 mod memory;
 mod model;
 mod name;

@@ -4,8 +4,8 @@ use Rattle.std.specs.Ordering.{nat_cmp}
 use Rattle.std.specs.BTreeMap.{is_at}
 use Rattle.std.specs.BTreeSet.{contains}
 use Rattle.std.proofs.lemmas.Bool.{OnFalse_at}
-use Rattle.lit_base.proofs.clause.distinct_by_set.Goals as goal
-use Rattle.lit_base.proofs.clause.distinct_by_set.Goals.{then-branch+in_ok-push, else-branch}
+use Rattle.lit_base.proofs.clause.distinct_by_tree.Goals as goal
+use Rattle.lit_base.proofs.clause.distinct_by_tree.Goals.{then-branch+in_ok-push, else-branch}
 use Rattle.lit_base.proofs.DistinctLits.{distinct_pushed, distinct_passed, places_after, places_same, has_by_places}
 
 -- a literal whose place was not in the set is kept, another is passed over

@@ -1,6 +1,6 @@
 use Rattle.std.proofs.Common.{◌≡◌, replicate, false, rules}
 use Rattle.lit_base.proofs.Flags.{clear_at}
-use Rattle.lit_base.proofs.clause.clear_flags.Goals as goal
+use Rattle.lit_base.proofs.lit_set.clear_flags.Goals as goal
 
 -- a flag is clear wherever it is read
 pub returns-clause-clear : goal.returns-clause-clear
