@@ -28,3 +28,5 @@ pub mod TrailWithin
 pub mod HintsDistinct
 pub mod Passed
 pub mod Touched
+pub mod NameOrder
+pub mod RoundOrder

@@ -9,11 +9,13 @@ pub use laws::lesson::{
     law_lesson_follows, law_lesson_is_asserting, law_lesson_literals, law_root_lesson_is_empty,
     law_small_lesson, law_touched_variables,
 };
+pub use laws::name::law_names_are_ordered;
 pub use laws::proof::{
     law_checked_proof_refutes, law_empty_lemma_decides, law_found_more_follows, law_small_proofs,
 };
 pub use laws::propagation::{
-    law_fixed_point_is_quiet, law_originals_are_found, law_propagation_fits, law_rounds_suffice,
+    law_conflict_is_least, law_fixed_point_is_quiet, law_originals_are_found, law_propagation_fits,
+    law_rounds_suffice, law_units_by_name,
 };
 pub use laws::trail::{law_full_trail_satisfies, law_jump_fits, law_model_has_each_value};
 pub use lesson::Lesson;
