@@ -1,11 +1,13 @@
 -- Lemmas on writing a text piece by piece.
-use Rattle.std.proofs.Common.{◌≡◌, ℕ, ◌-◌, ◌≤◌, List, ◌++◌, Option, Some, None, Ok, length, take, drop, refl, ap, ◌∙◌, append_assoc, arith}
+use Rattle.std.proofs.Common.{◌≡◌, ℕ, ◌-◌, ◌≤◌, List, ◌++◌, Option, Some, None, Result, Ok, Err, length, take, drop, refl, ap, ◌∙◌, append_assoc, arith}
 use Rattle.std.proofs.lemmas.List.{take-append-drop, take_all, length-drop}
 use Rattle.std.specs.Io.KnownBytes.{append_known}
 use Rattle.desk_io.specs.declared.Port.{Port}
 use Rattle.desk_io.specs.declared.Port.TheVariants.{Answer, Log, Complaint}
-use Rattle.desk_io.specs.Told.{PortTold, OutputsTold, KeepsOtherPorts}
-use Rattle.desk_io.specs.Outputs.{Writes}
+use Rattle.desk_io.specs.declared.PortFault.{PortFault}
+use Rattle.desk_io.specs.declared.PortFault.TheVariants.{Failed, NoMemory}
+use Rattle.desk_io.specs.Told.{PortTold, OutputsTold, Rose, KeepsOtherPorts}
+use Rattle.desk_io.specs.Outputs.{Writes, WritesWhole, OnFailed}
 
 -- of `text` the port has taken a front, and `rest` is still to come
 pub record HasWritten (port : Port) (text rest : List ℕ) (start now : OutputsTold) : Type 0 where
@@ -44,4 +46,46 @@ HasWritten-more {port} {text} {rest} {start} {mid} {after} n before write = reco
   names = write.names ∙ before.names;
   later = omega (arith, before.later, write.later);
   others = KeepsOtherPorts-twice port start.at mid.at after.at before.others write.others;
+}
+
+-- a fault that rose from a later count rose from an earlier one
+pub OnFailed-later : (result : Result (Unit {0}) PortFault) (start mid after : ℕ) → start ≤ mid → OnFailed result (Rose mid after) → OnFailed result (Rose start after)
+OnFailed-later (Ok done) start mid after later rose = tt
+OnFailed-later (Err Failed) start mid after later rose = omega (arith, rose)
+OnFailed-later (Err NoMemory) start mid after later rose = tt
+
+-- a text that was written whole, and then another, were written as one
+pub WritesWhole-then : {port : Port} {first second : List ℕ} {start mid after : OutputsTold} → WritesWhole port first start mid (Ok tt) →
+    WritesWhole port second mid after (Ok tt) → WritesWhole port (first ++ second) start after (Ok tt)
+WritesWhole-then {port} {first} {second} {start} {mid} {after} front back = record {
+  creates = back.creates ∙ front.creates;
+  names = back.names ∙ front.names;
+  written = back.written ∙ ap (λ known. append_known known second) front.written ∙ append_known-twice (start.at port).written first second;
+  later = omega (arith, front.later, back.later);
+  failed = tt;
+  others = KeepsOtherPorts-twice port start.at mid.at after.at front.others back.others;
+}
+
+-- a text of which a front was written whole, and no more since the port stopped
+pub WritesWhole-front : {port : Port} {text done : List ℕ} {start after : OutputsTold} {fault : PortFault} (rest : List ℕ) → done ++ rest ≡ text → WritesWhole port done start after (Ok tt) →
+    OnFailed {T = Unit {0}} (Err fault) (Rose (start.at port).faults (after.at port).faults) → WritesWhole port text start after (Err fault)
+WritesWhole-front {done = done} rest parts front failed = record {
+  creates = front.creates;
+  names = front.names;
+  written = record { done = done; rest = rest; parts = parts; bytes = front.written };
+  later = front.later;
+  failed = failed;
+  others = front.others;
+}
+
+-- and that front was written whole
+pub WritesWhole-done : {port : Port} {text : List ℕ} {start after : OutputsTold} {fault : PortFault} (stopped : WritesWhole port text start after (Err fault)) →
+    WritesWhole port stopped.written.done start after (Ok tt)
+WritesWhole-done stopped = record {
+  creates = stopped.creates;
+  names = stopped.names;
+  written = stopped.written.bytes;
+  later = stopped.later;
+  failed = tt;
+  others = stopped.others;
 }

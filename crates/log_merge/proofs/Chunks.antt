@@ -34,6 +34,15 @@ first_chunks-push width (suc rows) xs row whole one =
     ∙ ap (λ ys. take width xs ∷ first_chunks width (suc rows) ys) (drop-append-le width xs row first)
     ∙ ap (λ ys. take width xs ∷ ys) (first_chunks-push width rows (drop width xs) row (rest_whole width rows xs whole) one)
 
+-- rows of no width: none of them has an element
+pub no_width-push : (rows : ℕ) (xs ys : List ℕ) → first_chunks 0 (suc rows) ys ≡ first_chunks 0 rows xs ++ [] ∷ []
+no_width-push zero xs ys = refl
+no_width-push (suc rows) xs ys = ap (λ later. [] ∷ later) (no_width-push rows xs ys)
+
+pub no_width-sum : (rows : ℕ) (xs : List ℕ) → lemmas_in (first_chunks 0 rows xs) ≡ 0
+no_width-sum zero xs = refl
+no_width-sum (suc rows) xs = omega (arith, sum_by-cons sum [] (first_chunks 0 rows xs), no_width-sum rows xs)
+
 -- the count of a row at a place
 pub chunk_at : (width rows : ℕ) (xs : List ℕ) (row place : ℕ) → row < rows → place < width →
     get_or (get_or (first_chunks width rows xs) row []) place 0 ≡ get_or xs (row * width + place) 0

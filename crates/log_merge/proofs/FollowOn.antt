@@ -9,7 +9,7 @@ use Rattle.solo_core.specs.State.{lemma_name}
 use Rattle.solo_core.specs.Log.{AreNumbered, NumbersOriginals}
 use Rattle.solo_core.specs.Soundness.{AreNamed}
 use Rattle.log_merge.specs.Numbering.{Numbering, lemmas_in, counts_in, number_before, number_of}
-use Rattle.log_merge.specs.Log.{names_from, names_of_cores, names_of_periods, log_names, names_of}
+use Rattle.log_merge.specs.Log.{names_from, names_of_cores, names_of_periods, log_names, names_of_lemmas}
 use Rattle.log_merge.proofs.Placed.{number_of-lemma}
 
 pub numbers_originals : (n : Numbering) → NumbersOriginals (number_of n)
@@ -62,7 +62,7 @@ HaveNumbersFrom-append number id mid [] later is first second = subst (λ k. Hav
 HaveNumbersFrom-append number id mid (name ∷ names) later is first second =
     (first.0, HaveNumbersFrom-append number (id + 1) mid names later (omega (arith, is)) first.1 second)
 
-lemmas_numbered : (number : Name → ℕ) (id : ℕ) (lemmas : List Lemma) → HaveNumbersFrom number id (names_of lemmas) → AreNumbered number id lemmas
+lemmas_numbered : (number : Name → ℕ) (id : ℕ) (lemmas : List Lemma) → HaveNumbersFrom number id (names_of_lemmas lemmas) → AreNumbered number id lemmas
 lemmas_numbered number id [] names = tt
 lemmas_numbered number id (lemma ∷ later) names = (names.0, lemmas_numbered number (id + 1) later names.1)
 
@@ -134,7 +134,7 @@ periods_numbered n before (counts ∷ later) id rest is =
     (periods_numbered n (before + 1) later (id + sum counts) (ap (λ k. drop k n.periods) (add-one before) ∙ rest_later [] n.periods before counts later rest)
     (omega (arith, is, whole_period n (before + 1) (omega arith) (omega (arith, within)), ap sum here)))
 
-pub log_numbered : (n : Numbering) (lemmas : List Lemma) → names_of lemmas ≡ log_names n → AreNumbered (number_of n) (n.originals + 1) lemmas
+pub log_numbered : (n : Numbering) (lemmas : List Lemma) → names_of_lemmas lemmas ≡ log_names n → AreNumbered (number_of n) (n.originals + 1) lemmas
 log_numbered n lemmas are =
     lemmas_numbered (number_of n) (n.originals + 1) lemmas
     (subst (HaveNumbersFrom (number_of n) (n.originals + 1)) (sym are) (periods_numbered n 0 n.periods (n.originals + 1) refl (omega arith)))

@@ -1,107 +1,87 @@
 -- Lemmas on a text that is gathered piece by piece.
-use Rattle.std.proofs.Common.{◌≡◌, ℕ, ◌+◌, ◌<◌, ◌≤◌, List, [], ◌∷◌, ◌++◌, Option, Some, None, length, take, drop, get_or, refl, sym, ap, ◌∙◌, append_assoc, append-nil, subst, arith}
+use Rattle.std.proofs.Common.{◌≡◌, ℕ, ◌+◌, ◌<◌, List, [], ◌∷◌, ◌++◌, length, take, drop, get_or, refl, sym, ap, ◌∙◌, append_assoc, append-nil, subst}
 use Rattle.std.specs.Prelude.{Result, Ok, Err, OnOk, IsErrAnd, flat_map}
 use Rattle.std.proofs.lemmas.List.{take-append-drop, take_more}
 use Rattle.std.proofs.lemmas.Grind.{flat_map-append}
-use Rattle.std.specs.Io.KnownBytes.{append_known}
 use Rattle.desk_io.specs.declared.Port.TheVariants.{Log}
+use Rattle.desk_io.specs.declared.PortFault.{PortFault}
+use Rattle.desk_io.specs.declared.PortFault.TheVariants.{NoMemory}
 use Rattle.desk_io.specs.Told.{OutputsTold, Rose}
-use Rattle.log_merge.specs.declared.stop.Stop.{Stop}
-use Rattle.log_merge.specs.declared.stop.Stop.TheVariants.{NoMemory, WriteFault}
-use Rattle.log_merge.specs.Writing.{OnWriteFault, WritesPart, Gathers}
+use Rattle.desk_io.specs.Outputs.{WritesWhole, OnFailed}
+use Rattle.desk_io.proofs.Written.{WritesWhole-then, WritesWhole-front, WritesWhole-done, OnFailed-later}
+use Rattle.log_merge.specs.Writing.{Gathers}
 
 -- the answer of a call that went well
-abbrev pub fine : Result (Unit {0}) Stop
+abbrev pub fine : Result (Unit {0}) PortFault
 fine = Ok tt
 
--- bytes that grow twice grow by both parts
-append_known-twice : (known : Option (List ℕ)) (xs ys : List ℕ) → append_known (append_known known xs) ys ≡ append_known known (xs ++ ys)
-append_known-twice None xs ys = refl
-append_known-twice (Some bytes) xs ys = ap Some (append_assoc bytes xs ys)
-
--- a fault that rose from a later count rose from an earlier one
-fault_later : (r : Result (Unit {0}) Stop) (old mid new : ℕ) → old ≤ mid → OnWriteFault r (Rose mid new) → OnWriteFault r (Rose old new)
-fault_later (Ok done) old mid new later rose = tt
-fault_later (Err WriteFault) old mid new later rose = omega (arith, rose)
-fault_later (Err NoMemory) old mid new later rose = tt
-
 -- a text may be written in another way
-pub Gathers-same : {text other held kept : List ℕ} {old new : OutputsTold} {result : Result (Unit {0}) Stop} → text ≡ other →
-    Gathers text held kept old new result → Gathers other held kept old new result
-Gathers-same {held = held} {kept = kept} {old = old} {new = new} {result = result} same = subst (λ text. Gathers text held kept old new result) same
+pub Gathers-same : {text other held kept : List ℕ} {before after : OutputsTold} {result : Result (Unit {0}) PortFault} → text ≡ other →
+    Gathers text held kept before after result → Gathers other held kept before after result
+Gathers-same {held = held} {kept = kept} {before = before} {after = after} {result = result} same = subst (λ text. Gathers text held kept before after result) same
+
+-- all that the buffer held is written
+pub Gathers-flushed : {held kept : List ℕ} {before after : OutputsTold} (result : Result (Unit {0}) PortFault) → WritesWhole Log held before after result →
+    OnOk result (kept ≡ []) → Gathers [] held kept before after result
+Gathers-flushed {held} (Ok done) all emptied = record { done = held; rest = []; parts = refl; keeps = emptied; wrote = all; failed = tt }
+Gathers-flushed {held} (Err fault) front emptied = record {
+  done = front.written.done;
+  rest = front.written.rest;
+  parts = front.written.parts ∙ sym (append-nil held);
+  keeps = tt;
+  wrote = WritesWhole-done front;
+  failed = front.failed;
+}
 
 -- a text and then another are gathered as one
-pub Gathers-then : {first second held mid_held kept : List ℕ} {old mid new : OutputsTold} {result : Result (Unit {0}) Stop} →
-    Gathers first held mid_held old mid fine → Gathers second mid_held kept mid new result → Gathers (first ++ second) held kept old new result
-Gathers-then {first} {second} {held} {mid_held} {kept} {old} {mid} {new} {result} before after = record {
-  done = before.done ++ after.done;
-  rest = after.rest;
-  parts = append_assoc before.done after.done after.rest ∙ ap (λ xs. before.done ++ xs) (after.parts ∙ ap (λ xs. xs ++ second) before.keeps)
-      ∙ sym (append_assoc before.done before.rest second) ∙ ap (λ xs. xs ++ second) before.parts ∙ append_assoc held first second;
-  keeps = after.keeps;
-  written = after.written ∙ ap (λ known. append_known known after.done) before.written ∙ append_known-twice (old.at Log).written before.done after.done;
-  creates = after.creates ∙ before.creates;
-  names = after.names ∙ before.names;
-  later = omega (arith, before.later, after.later);
-  failed = fault_later result (old.at Log).faults (mid.at Log).faults (new.at Log).faults before.later after.failed;
-  others = (after.others.0 ∙ before.others.0, after.others.1 ∙ before.others.1);
+pub Gathers-then : {first second held mid_held kept : List ℕ} {before mid after : OutputsTold} {result : Result (Unit {0}) PortFault} →
+    Gathers first held mid_held before mid fine → Gathers second mid_held kept mid after result → Gathers (first ++ second) held kept before after result
+Gathers-then {first} {second} {held} {before = before} {mid = mid} {after = after} {result = result} front back = record {
+  done = front.done ++ back.done;
+  rest = back.rest;
+  parts = append_assoc front.done back.done back.rest ∙ ap (λ xs. front.done ++ xs) (back.parts ∙ ap (λ xs. xs ++ second) front.keeps)
+      ∙ sym (append_assoc front.done front.rest second) ∙ ap (λ xs. xs ++ second) front.parts ∙ append_assoc held first second;
+  keeps = back.keeps;
+  wrote = WritesWhole-then front.wrote back.wrote;
+  failed = OnFailed-later result (before.at Log).faults (mid.at Log).faults (after.at Log).faults front.wrote.later back.failed;
 }
 
 -- where the gathering stopped, it stopped in any longer text too
-pub Gathers-longer : {text held kept : List ℕ} {old new : OutputsTold} {stop : Stop} (more : List ℕ) → Gathers text held kept old new (Err stop) →
-    Gathers (text ++ more) held kept old new (Err stop)
-Gathers-longer {text} {held} more before = record {
-  done = before.done;
-  rest = before.rest ++ more;
-  parts = sym (append_assoc before.done before.rest more) ∙ ap (λ xs. xs ++ more) before.parts ∙ append_assoc held text more;
+pub Gathers-longer : {text held kept : List ℕ} {before after : OutputsTold} {fault : PortFault} (more : List ℕ) → Gathers text held kept before after (Err fault) →
+    Gathers (text ++ more) held kept before after (Err fault)
+Gathers-longer {text} {held} more front = record {
+  done = front.done;
+  rest = front.rest ++ more;
+  parts = sym (append_assoc front.done front.rest more) ∙ ap (λ xs. xs ++ more) front.parts ∙ append_assoc held text more;
   keeps = tt;
-  written = before.written;
-  creates = before.creates;
-  names = before.names;
-  later = before.later;
-  failed = before.failed;
-  others = before.others;
+  wrote = front.wrote;
+  failed = front.failed;
 }
 
--- a call that passes on why it stopped
-pub Gathers-passed_on : {text held kept : List ℕ} {old new : OutputsTold} {stop : Stop} (other : List ℕ) (result : Result (Unit {0}) Stop) →
-    IsErrAnd result (λ y. y ≡ stop) → Gathers text held kept old new (Err stop) → Gathers text held other old new result
-Gathers-passed_on other (Ok done) same before = absurd same
-Gathers-passed_on {old = old} {new = new} other (Err y) same before = record {
-  done = before.done;
-  rest = before.rest;
-  parts = before.parts;
+-- a call passes on why it stopped
+Gathers-passed_on : {text held kept : List ℕ} {before after : OutputsTold} {fault : PortFault} (other : List ℕ) (result : Result (Unit {0}) PortFault) →
+    IsErrAnd result (λ y. y ≡ fault) → Gathers text held kept before after (Err fault) → Gathers text held other before after result
+Gathers-passed_on other (Ok done) same front = absurd same
+Gathers-passed_on {before = before} {after = after} other (Err y) same front = record {
+  done = front.done;
+  rest = front.rest;
+  parts = front.parts;
   keeps = tt;
-  written = before.written;
-  creates = before.creates;
-  names = before.names;
-  later = before.later;
-  failed = subst (λ (z : Stop). OnWriteFault {T = Unit {0}} (Err z) (Rose (old.at Log).faults (new.at Log).faults)) (sym same) before.failed;
-  others = before.others;
+  wrote = front.wrote;
+  failed = subst (λ (z : PortFault). OnFailed {T = Unit {0}} (Err z) (Rose (before.at Log).faults (after.at Log).faults)) (sym same) front.failed;
 }
 
-pub Gathers-stopped : {text held kept : List ℕ} {old new : OutputsTold} {stop : Stop} (more other : List ℕ) (result : Result (Unit {0}) Stop) →
-    IsErrAnd result (λ y. y ≡ stop) → Gathers text held kept old new (Err stop) → Gathers (text ++ more) held other old new result
-Gathers-stopped more other result same before = Gathers-passed_on other result same (Gathers-longer more before)
+pub Gathers-stopped : {text held kept : List ℕ} {before after : OutputsTold} {fault : PortFault} (more other : List ℕ) (result : Result (Unit {0}) PortFault) →
+    IsErrAnd result (λ y. y ≡ fault) → Gathers text held kept before after (Err fault) → Gathers (text ++ more) held other before after result
+Gathers-stopped more other result same front = Gathers-passed_on other result same (Gathers-longer more front)
 
 -- what was gathered without a fault stays gathered where memory runs out
-out_of_memory : {text held kept : List ℕ} {old new : OutputsTold} → Gathers text held kept old new fine → Gathers text held kept old new (Err NoMemory)
-out_of_memory before = record {
-  done = before.done;
-  rest = before.rest;
-  parts = before.parts;
-  keeps = tt;
-  written = before.written;
-  creates = before.creates;
-  names = before.names;
-  later = before.later;
-  failed = tt;
-  others = before.others;
-}
+out_of_memory : {text held kept : List ℕ} {before after : OutputsTold} → Gathers text held kept before after fine → Gathers text held kept before after (Err NoMemory)
+out_of_memory front = record { done = front.done; rest = front.rest; parts = front.parts; keeps = tt; wrote = front.wrote; failed = tt }
 
-pub Gathers-refused : {text held kept : List ℕ} {old new : OutputsTold} (more other : List ℕ) (result : Result (Unit {0}) Stop) →
-    IsErrAnd result (λ y. y ≡ NoMemory) → Gathers text held kept old new fine → Gathers (text ++ more) held other old new result
-Gathers-refused more other result same before = Gathers-stopped more other result same (out_of_memory before)
+pub Gathers-refused : {text held kept : List ℕ} {before after : OutputsTold} (more other : List ℕ) (result : Result (Unit {0}) PortFault) →
+    IsErrAnd result (λ y. y ≡ NoMemory) → Gathers text held kept before after fine → Gathers (text ++ more) held other before after result
+Gathers-refused more other result same front = Gathers-stopped more other result same (out_of_memory front)
 
 -- the texts of a list, up to one of them and with it
 texts_to : {A : Type 0} (f : A → List ℕ) (xs : List A) (i : ℕ) (x : A) → i < length xs → x ≡ get_or xs i x →
@@ -116,35 +96,21 @@ texts_behind f xs i x within is =
     ap (λ ys. ys ++ flat_map f (drop (i + 1) xs)) (sym (texts_to f xs i x within is)) ∙ sym (flat_map-append f (take (i + 1) xs) (drop (i + 1) xs)) ∙ ap (flat_map f) (take-append-drop (i + 1) xs)
 
 -- one more text of a list is gathered
-pub Gathers-more : {A : Type 0} {held mid_held kept : List ℕ} {old mid new : OutputsTold} (f : A → List ℕ) (xs : List A) (i : ℕ) (x : A) → i < length xs → x ≡ get_or xs i x →
-    Gathers (flat_map f (take i xs)) held mid_held old mid fine → Gathers (f x) mid_held kept mid new fine → Gathers (flat_map f (take (i + 1) xs)) held kept old new fine
-Gathers-more {held = held} {kept = kept} {old = old} {new = new} f xs i x within is before after =
-    subst (λ text. Gathers text held kept old new fine) (sym (texts_to f xs i x within is)) (Gathers-then before after)
+pub Gathers-more : {A : Type 0} {held mid_held kept : List ℕ} {before mid after : OutputsTold} (f : A → List ℕ) (xs : List A) (i : ℕ) (x : A) → i < length xs → x ≡ get_or xs i x →
+    Gathers (flat_map f (take i xs)) held mid_held before mid fine → Gathers (f x) mid_held kept mid after fine → Gathers (flat_map f (take (i + 1) xs)) held kept before after fine
+Gathers-more f xs i x within is front back = Gathers-same (sym (texts_to f xs i x within is)) (Gathers-then front back)
 
 -- the gathering stopped at one of the texts
-pub Gathers-stopped_at : {A : Type 0} {held mid_held kept : List ℕ} {old mid new : OutputsTold} {stop : Stop} (f : A → List ℕ) (xs : List A) (i : ℕ) (x : A) (other : List ℕ)
-    (result : Result (Unit {0}) Stop) → i < length xs → x ≡ get_or xs i x → IsErrAnd result (λ y. y ≡ stop) →
-    Gathers (flat_map f (take i xs)) held mid_held old mid fine → Gathers (f x) mid_held kept mid new (Err stop) → Gathers (flat_map f xs) held other old new result
-Gathers-stopped_at {held = held} {old = old} {new = new} f xs i x other result within is same before after =
-    subst (λ text. Gathers text held other old new result) (texts_behind f xs i x within is) (Gathers-stopped (flat_map f (drop (i + 1) xs)) other result same (Gathers-then before after))
+pub Gathers-stopped_at : {A : Type 0} {held mid_held kept : List ℕ} {before mid after : OutputsTold} {fault : PortFault} (f : A → List ℕ) (xs : List A) (i : ℕ) (x : A) (other : List ℕ)
+    (result : Result (Unit {0}) PortFault) → i < length xs → x ≡ get_or xs i x → IsErrAnd result (λ y. y ≡ fault) →
+    Gathers (flat_map f (take i xs)) held mid_held before mid fine → Gathers (f x) mid_held kept mid after (Err fault) → Gathers (flat_map f xs) held other before after result
+Gathers-stopped_at f xs i x other result within is same front back =
+    Gathers-same (texts_behind f xs i x within is) (Gathers-stopped (flat_map f (drop (i + 1) xs)) other result same (Gathers-then front back))
 
 -- what a buffer gathered that is empty before and after is written
-pub WritesPart-from_gathered : {text held kept : List ℕ} {old new : OutputsTold} (result : Result (Unit {0}) Stop) → held ≡ [] →
-    Gathers text held kept old new result → OnOk result (kept ≡ []) → WritesPart text old new result
-WritesPart-from_gathered {text} {old = old} {new = new} (Ok done) fresh all empty = record {
-  creates = all.creates;
-  names = all.names;
-  written = all.written
-      ∙ ap (append_known (old.at Log).written) (sym (append-nil all.done) ∙ ap (λ xs. all.done ++ xs) (sym empty ∙ all.keeps) ∙ all.parts ∙ ap (λ xs. xs ++ text) fresh);
-  later = all.later;
-  failed = tt;
-  others = all.others;
-}
-WritesPart-from_gathered {text} {old = old} {new = new} (Err stop) fresh part empty = record {
-  creates = part.creates;
-  names = part.names;
-  written = record { done = part.done; rest = part.rest; parts = part.parts ∙ ap (λ xs. xs ++ text) fresh; bytes = part.written };
-  later = part.later;
-  failed = part.failed;
-  others = part.others;
-}
+pub WritesWhole-gathered : {text held kept : List ℕ} {before after : OutputsTold} (result : Result (Unit {0}) PortFault) → held ≡ [] →
+    Gathers text held kept before after result → OnOk result (kept ≡ []) → WritesWhole Log text before after result
+WritesWhole-gathered {text} {before = before} {after = after} (Ok done) fresh all emptied =
+    subst (λ xs. WritesWhole Log xs before after fine)
+    (sym (append-nil all.done) ∙ ap (λ xs. all.done ++ xs) (sym emptied ∙ all.keeps) ∙ all.parts ∙ ap (λ xs. xs ++ text) fresh) all.wrote
+WritesWhole-gathered {text} (Err fault) fresh part emptied = WritesWhole-front part.rest (part.parts ∙ ap (λ xs. xs ++ text) fresh) part.wrote part.failed

@@ -25,5 +25,5 @@ abbrev pub log_names : Numbering → List Name
 log_names n = names_of_periods 1 n.periods
 
 -- the names of some lemmas
-abbrev pub names_of : List Lemma → List Name
-names_of lemmas = map (λ lemma. lemma.name) lemmas
+abbrev pub names_of_lemmas : List Lemma → List Name
+names_of_lemmas lemmas = map (λ lemma. lemma.name) lemmas

@@ -1,5 +1,5 @@
 -- The numbers of the log's lines. The log is the list of the standing lemmas by period, core and index.
-use Rattle.std.specs.Prelude.{ℕ, ◌+◌, ◌-◌, ◌≡◌, ◌<◌, ◌≤◌, ◌⊎◌, ◌==◌, if◌then◌else◌, List, [], ◌∷◌, ◌++◌, length, take, sum, sum_by, slice_index, slice_index_or}
+use Rattle.std.specs.Prelude.{ℕ, zero, suc, ◌+◌, ◌-◌, ◌*◌, ◌/◌, ◌≡◌, ◌<◌, ◌≤◌, ◌⊎◌, ◌==◌, if◌then◌else◌, List, [], ◌∷◌, ◌++◌, length, take, sum, sum_by, slice_index, slice_index_or}
 use Rattle.std.specs.Simd.{first_chunks}
 use Rattle.lit_base.specs.declared.name.Name.{Name}
 use Rattle.log_merge.specs.Sums.{Counted}
@@ -18,6 +18,21 @@ first_numbering originals cores = record { originals = originals; cores = cores;
 abbrev pub numbering_of : ℕ → ℕ → Counted → Numbering
 numbering_of cores periods sums =
     record { originals = sums.first; cores = cores; periods = first_chunks cores periods sums.counts }
+
+-- the counts of a period as they are kept: where there is no core a 0, so that each period takes a place
+abbrev pub kept_row : List ℕ → List ℕ
+kept_row [] = 0 ∷ []
+kept_row (count ∷ later) = count ∷ later
+
+-- of how many periods of so many cores the kept counts are
+abbrev pub periods_in : ℕ → List ℕ → ℕ
+periods_in zero counts = length counts
+periods_in (suc cores) counts = length counts / suc cores
+
+-- the kept counts are those of whole periods: of as many as there are cores in each, and of no lemma where there is no core
+abbrev pub AreWholePeriods : ℕ → List ℕ → Type 0
+AreWholePeriods zero counts = sum counts ≡ 0
+AreWholePeriods (suc cores) counts = length counts ≡ periods_in (suc cores) counts * suc cores
 
 -- one more ended period
 abbrev pub with_period : List ℕ → Numbering → Numbering

@@ -1,41 +1,28 @@
 -- What writing some text to the log does to what the outputs tell.
-use Rattle.std.specs.Prelude.{◌≡◌, ℕ, ◌≤◌, List, ◌++◌, Option, Result, Ok, Err, OnOk}
-use Rattle.std.specs.Io.KnownBytes.{append_known}
+use Rattle.std.specs.Prelude.{◌≡◌, ℕ, List, ◌++◌, Result, Ok, Err, OnOk}
 use Rattle.desk_io.specs.declared.Port.TheVariants.{Log}
-use Rattle.desk_io.specs.Told.{OutputsTold, Rose, KeepsOtherPorts}
-use Rattle.desk_io.specs.Outputs.{GrowsByFront}
+use Rattle.desk_io.specs.declared.PortFault.{PortFault}
+use Rattle.desk_io.specs.declared.PortFault.TheVariants.{Failed, NoMemory}
+use Rattle.desk_io.specs.Told.{OutputsTold, Rose}
+use Rattle.desk_io.specs.Outputs.{WritesWhole, OnFailed}
 use Rattle.log_merge.specs.declared.stop.Stop.{Stop}
-use Rattle.log_merge.specs.declared.stop.Stop.TheVariants.{NoMemory, WriteFault}
+use Rattle.log_merge.specs.declared.stop.Stop.TheVariants.{NoMemory as WantOfMemory, WriteFault}
 
--- the fact holds where the answer is `WriteFault`; want of memory says nothing
-abbrev pub OnWriteFault : {T : Type 0} → Result T Stop → Type 0 → Type 0
-OnWriteFault (Ok _) P = Unit {0}
-OnWriteFault (Err WriteFault) P = P
-OnWriteFault (Err NoMemory) P = Unit {0}
+-- how the writing of a part ended, as a call on the log's port has it
+abbrev pub on_port : Result (Unit {0}) Stop → Result (Unit {0}) PortFault
+on_port (Ok done) = Ok done
+on_port (Err WriteFault) = Err Failed
+on_port (Err WantOfMemory) = Err NoMemory
 
--- the log grows by the whole text, and by a front of it where the writing stops
-abbrev pub GrowsWhole : List ℕ → Option (List ℕ) → Option (List ℕ) → Result (Unit {0}) Stop → Type 0
-GrowsWhole text old new (Ok _) = new ≡ append_known old text
-GrowsWhole text old new (Err _) = GrowsByFront text old new
+-- `write_part` of a text writes it to the log as `write_whole` does
+abbrev pub WritesPart : List ℕ → OutputsTold → OutputsTold → Result (Unit {0}) Stop → Type 0
+WritesPart text before after result = WritesWhole Log text before after (on_port result)
 
--- `write_part` of a text
-pub record WritesPart (text : List ℕ) (old new : OutputsTold) (result : Result (Unit {0}) Stop) : Type 0 where
-  pub creates : new.creates ≡ old.creates
-  pub names : new.names ≡ old.names
-  pub written : GrowsWhole text (old.at Log).written (new.at Log).written result
-  pub later : (old.at Log).faults ≤ (new.at Log).faults
-  pub failed : OnWriteFault result (Rose (old.at Log).faults (new.at Log).faults)
-  pub others : KeepsOtherPorts Log old.at new.at
-
--- a buffer that held `held` takes the text: of both, a front is written and the rest is kept
-pub record Gathers (text held kept : List ℕ) (old new : OutputsTold) (result : Result (Unit {0}) Stop) : Type 0 where
+-- a buffer that held `held` takes the text: of both, a front is written as `write_whole` does, and the rest is kept
+pub record Gathers (text held kept : List ℕ) (before after : OutputsTold) (result : Result (Unit {0}) PortFault) : Type 0 where
   pub done : List ℕ
   pub rest : List ℕ
   pub parts : done ++ rest ≡ held ++ text
   pub keeps : OnOk result (kept ≡ rest)
-  pub written : (new.at Log).written ≡ append_known (old.at Log).written done
-  pub creates : new.creates ≡ old.creates
-  pub names : new.names ≡ old.names
-  pub later : (old.at Log).faults ≤ (new.at Log).faults
-  pub failed : OnWriteFault result (Rose (old.at Log).faults (new.at Log).faults)
-  pub others : KeepsOtherPorts Log old.at new.at
+  pub wrote : WritesWhole Log done before after (Ok tt)
+  pub failed : OnFailed result (Rose (before.at Log).faults (after.at Log).faults)

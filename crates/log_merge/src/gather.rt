@@ -1,7 +1,6 @@
 ghost use Rattle.std.specs.Prelude.{◌≡◌, [], ◌++◌, decimal, OnOk};
 ghost use Rattle.log_merge.specs.Writing.{Gathers};
 
-use crate::stop::Stop;
 use desk_io::{Outputs, Port, PortFault, write_whole};
 use itoa::Buffer;
 use lit_base::NoMemory;
@@ -10,21 +9,17 @@ use lit_base::NoMemory;
 pub(crate) const FULL: usize = 65_536;
 
 /// Writes all that the buffer holds to the log.
-pub(crate) fn flush<O: Outputs>(buffer: &mut Vec<u8>, outputs: &mut O) -> Result<(), Stop>
+pub(crate) fn flush<O: Outputs>(buffer: &mut Vec<u8>, outputs: &mut O) -> Result<(), PortFault>
     ensures gathers { Gathers [] buffer.old.items buffer.new.items (O.told outputs.old) (O.told outputs.new) result }
     ensures emptied { OnOk result (buffer.new.items ≡ []) }
 {
-    match write_whole(outputs, Port::Log, buffer.as_slice()) {
-        Ok(()) => {}
-        Err(PortFault::Failed) => return Err(Stop::WriteFault),
-        Err(PortFault::NoMemory) => return Err(Stop::NoMemory),
-    }
+    write_whole(outputs, Port::Log, buffer.as_slice())?;
     buffer.clear();
     Ok(())
 }
 
 /// Writes what the buffer holds where it is full.
-fn make_room<O: Outputs>(buffer: &mut Vec<u8>, outputs: &mut O) -> Result<(), Stop>
+fn make_room<O: Outputs>(buffer: &mut Vec<u8>, outputs: &mut O) -> Result<(), PortFault>
     ensures { Gathers [] buffer.old.items buffer.new.items (O.told outputs.old) (O.told outputs.new) result }
 {
     if buffer.len() < FULL {
@@ -57,7 +52,7 @@ pub(crate) fn put_word<O: Outputs>(
     mark: &[u8],
     number: u64,
     outputs: &mut O,
-) -> Result<(), Stop>
+) -> Result<(), PortFault>
     ensures { Gathers (mark.now ++ decimal number) buffer.old.items buffer.new.items (O.told outputs.old) (O.told outputs.new) result }
 {
     make_room(buffer, outputs)?;
@@ -70,7 +65,7 @@ pub(crate) fn put_mark<O: Outputs>(
     buffer: &mut Vec<u8>,
     mark: &[u8],
     outputs: &mut O,
-) -> Result<(), Stop>
+) -> Result<(), PortFault>
     ensures { Gathers mark.now buffer.old.items buffer.new.items (O.told outputs.old) (O.told outputs.new) result }
 {
     make_room(buffer, outputs)?;

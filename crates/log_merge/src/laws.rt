@@ -6,7 +6,7 @@ ghost use Rattle.solo_core.specs.declared.lemma.Lemma.{Lemma};
 ghost use Rattle.solo_core.specs.Log.{AreNumbered, NumbersOriginals};
 ghost use Rattle.solo_core.specs.Soundness.{AreNamed};
 ghost use Rattle.log_merge.specs.Numbering.{Numbering, with_period, counts_in, number_before, number_of, HasNumber};
-ghost use Rattle.log_merge.specs.Log.{log_names, names_of};
+ghost use Rattle.log_merge.specs.Log.{log_names, names_of_lemmas};
 
 /// Originals are numbered from 1, and the lemmas of a core in a period from the number before its
 /// first one. The first core of the first period begins behind the originals, each core where the one
@@ -21,7 +21,7 @@ pub fn law_numbers_follow_on()
         number_before n period (core + 1) ≡ number_before n period core + slice_index (counts_in n period) core }
     ensures next_period { (n : Numbering) (period : ℕ) → 1 ≤ period → period ≤ length n.periods →
         number_before n (period + 1) 0 ≡ number_before n period (length (counts_in n period)) }
-    ensures whole { (n : Numbering) (lemmas : List Lemma) → names_of lemmas ≡ log_names n →
+    ensures whole { (n : Numbering) (lemmas : List Lemma) → names_of_lemmas lemmas ≡ log_names n →
         AreNumbered (number_of n) (n.originals + 1) lemmas }
 {}
 

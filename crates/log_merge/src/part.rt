@@ -1,13 +1,14 @@
-ghost use Rattle.std.specs.Prelude.{◌≡◌, [], ◌∷◌, All, IfOk};
+ghost use Rattle.std.specs.Prelude.{◌≡◌, [], ◌∷◌, All, IfOk, decimal};
 ghost use Rattle.lit_base.specs.Literal.{literal_text};
-ghost use Rattle.log_merge.specs.Numbering.{HasNumber};
+ghost use Rattle.desk_io.specs.Outputs.{WritesWhole};
+ghost use Rattle.log_merge.specs.Numbering.{number_of, HasNumber};
 ghost use Rattle.log_merge.specs.Part.{literals_text, hints_text, line_text, part_text, HasNumbers, AllHaveNumbers};
 ghost use Rattle.log_merge.specs.Writing.{Gathers, WritesPart};
 
 use crate::gather::{FULL, flush, put_mark, put_word};
 use crate::numbers::Numbers;
 use crate::stop::Stop;
-use desk_io::Outputs;
+use desk_io::{Outputs, Port, PortFault};
 use lit_base::{Lit, Name, NoMemory};
 use solo_core::Lemma;
 use std::alloc::Global;
@@ -29,6 +30,23 @@ pub fn write_part<O: Outputs>(
     requires { AllHaveNumbers numbers.now lemmas.now }
     ensures { WritesPart (part_text numbers.now lemmas.now) (O.told outputs.old) (O.told outputs.new) result }
 {
+    match write_lines(alloc, numbers, lemmas, outputs) {
+        Ok(()) => Ok(()),
+        Err(PortFault::Failed) => Err(Stop::WriteFault),
+        Err(PortFault::NoMemory) => Err(Stop::NoMemory),
+    }
+}
+
+/// Writes the lines of some lemmas through a buffer.
+fn write_lines<O: Outputs>(
+    alloc: Global,
+    numbers: &Numbers,
+    lemmas: &[Lemma],
+    outputs: &mut O,
+) -> Result<(), PortFault>
+    requires { AllHaveNumbers numbers.now lemmas.now }
+    ensures { WritesWhole Port.Log (part_text numbers.now lemmas.now) (O.told outputs.old) (O.told outputs.new) result }
+{
     let mut buffer = empty_buffer(alloc)?;
     put_lines(&mut buffer, numbers, lemmas, outputs)?;
     flush(&mut buffer, outputs)
@@ -47,7 +65,7 @@ fn put_lines<O: Outputs>(
     numbers: &Numbers,
     lemmas: &[Lemma],
     outputs: &mut O,
-) -> Result<(), Stop>
+) -> Result<(), PortFault>
     requires { AllHaveNumbers numbers.now lemmas.now }
     ensures { Gathers (part_text numbers.now lemmas.now) buffer.old.items buffer.new.items (O.told outputs.old) (O.told outputs.new) result }
 {
@@ -63,7 +81,7 @@ fn put_line<O: Outputs>(
     numbers: &Numbers,
     lemma: &Lemma,
     outputs: &mut O,
-) -> Result<(), Stop>
+) -> Result<(), PortFault>
     requires { HasNumbers numbers.now lemma.now }
     ensures { Gathers (line_text numbers.now lemma.now) buffer.old.items buffer.new.items (O.told outputs.old) (O.told outputs.new) result }
 {
@@ -75,7 +93,11 @@ fn put_line<O: Outputs>(
 }
 
 /// Gathers literals, each after a blank.
-fn put_literals<O: Outputs>(buffer: &mut Vec<u8>, lits: &[Lit], outputs: &mut O) -> Result<(), Stop>
+fn put_literals<O: Outputs>(
+    buffer: &mut Vec<u8>,
+    lits: &[Lit],
+    outputs: &mut O,
+) -> Result<(), PortFault>
     ensures { Gathers (literals_text lits.now) buffer.old.items buffer.new.items (O.told outputs.old) (O.told outputs.new) result }
 {
     for lit in lits {
@@ -85,7 +107,7 @@ fn put_literals<O: Outputs>(buffer: &mut Vec<u8>, lits: &[Lit], outputs: &mut O)
 }
 
 /// Gathers a blank and a literal.
-fn put_literal<O: Outputs>(buffer: &mut Vec<u8>, lit: Lit, outputs: &mut O) -> Result<(), Stop>
+fn put_literal<O: Outputs>(buffer: &mut Vec<u8>, lit: Lit, outputs: &mut O) -> Result<(), PortFault>
     ensures { Gathers (32 ∷ literal_text lit) buffer.old.items buffer.new.items (O.told outputs.old) (O.told outputs.new) result }
 {
     let mark = if lit.is_positive() {
@@ -102,12 +124,25 @@ fn put_hints<O: Outputs>(
     numbers: &Numbers,
     hints: &[Name],
     outputs: &mut O,
-) -> Result<(), Stop>
+) -> Result<(), PortFault>
     requires { All (HasNumber numbers.now) hints.now }
     ensures { Gathers (hints_text numbers.now hints.now) buffer.old.items buffer.new.items (O.told outputs.old) (O.told outputs.new) result }
 {
     for hint in hints {
-        put_word(buffer, b" ", numbers.number(*hint), outputs)?;
+        put_hint(buffer, numbers, *hint, outputs)?;
     }
     Ok(())
+}
+
+/// Gathers a blank and the number of a hint.
+fn put_hint<O: Outputs>(
+    buffer: &mut Vec<u8>,
+    numbers: &Numbers,
+    hint: Name,
+    outputs: &mut O,
+) -> Result<(), PortFault>
+    requires { HasNumber numbers.now hint }
+    ensures { Gathers (32 ∷ decimal (number_of numbers.now hint)) buffer.old.items buffer.new.items (O.told outputs.old) (O.told outputs.new) result }
+{
+    put_word(buffer, b" ", numbers.number(hint), outputs)
 }

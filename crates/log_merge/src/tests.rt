@@ -3,7 +3,7 @@ ghost use Rattle.lit_base.specs.Rounds.{original};
 ghost use Rattle.solo_core.specs.State.{lemma_name};
 ghost use Rattle.log_merge.specs.Numbering.{HasNumber};
 
-use crate::{Numbers, Stop, law_numbers_follow_on, law_numbers_stay, write_part};
+use crate::{Numbers, Stop, write_part};
 use desk_io::{MemoryOutputs, Port};
 use lit_base::{List, Lit, Name, NoMemory};
 use solo_core::Lemma;
@@ -109,11 +109,4 @@ fn a_part_is_written_up_to_a_write_that_fails(rt: HostRuntime) -> Result<(), Fai
         assert_eq!(rt; outputs.kept(Port::Log), front, "grain {grain}");
     }
     Ok(())
-}
-
-#[test]
-fn the_laws_do_nothing(rt: HostRuntime) {
-    let _ = rt;
-    law_numbers_follow_on();
-    law_numbers_stay();
 }
