@@ -3,18 +3,19 @@ use Rattle.std.proofs.Common.{◌≡◌, ℕ, suc, ◌+◌, ◌==◌, ◌<◌, �
 use Rattle.std.specs.Prelude.{Option, Some, None, IsSome, IfNone, is_some, is_none, find, option_map}
 use Rattle.std.specs.List.{AllByRecursion}
 use Rattle.std.proofs.lemmas.Bool.{cond-true, cond-false}
-use Rattle.std.proofs.lemmas.List.{drop_more, get_or-map}
+use Rattle.std.proofs.lemmas.List.{drop_more, get_or-map, length-map}
 use Rattle.std.proofs.lemmas.List.Elements.{All-from_recursion, All-head, All-tail}
 use Rattle.std.proofs.lemmas.Option.{same_Some}
 use Rattle.lit_base.specs.Literal.{Literal, IsWithin}
 use Rattle.lit_base.specs.Trail.{is_false}
 use Rattle.lit_base.specs.Rounds.{NamedClause, is_falsified, only_free, unit_of, conflict_of, with_unit, with_units, round_by, round, is_last, rounds}
 use Rattle.lit_base.specs.Named.{lits_at}
-use Rattle.lit_base.specs.Held.{HeldClause, clauses_of}
+use Rattle.lit_base.specs.Fits.{FindsAll}
 use Rattle.lit_base.specs.declared.trail.Entry.{Entry}
 use Rattle.lit_base.specs.declared.name.Name.{Name}
 use Rattle.lit_base.proofs.FixedPoint.{unit_of_all}
-use Rattle.round_prop.specs.Attached.{names_of, held_names, ArePoolClauses}
+use Rattle.round_prop.specs.Rows.{clause_of_row, clauses_of_rows}
+use Rattle.round_prop.specs.declared.row.Row.{Row}
 use Rattle.round_prop.specs.Candidates.{with_candidate, candidates_of, with_implied}
 use Rattle.round_prop.specs.declared.candidate.Candidate.{Candidate}
 
@@ -39,55 +40,47 @@ conflict_of-cons trail c rest = by_test (is_falsified trail c.lits) (find (λ d.
     by_test true o = refl
     by_test false o = refl
 
--- the names of the clauses are those of the held clauses
-names_of-clauses_of : (held : List HeldClause) → names_of (clauses_of held) ≡ held_names held
-names_of-clauses_of [] = refl
-names_of-clauses_of (c ∷ later) = ap (λ names. c.name ∷ names) (names_of-clauses_of later)
-
-length-names_of : (clauses : List NamedClause) → length (names_of clauses) ≡ length clauses
-length-names_of [] = refl
-length-names_of (c ∷ later) = ap suc (length-names_of later)
-
--- the clause at an index, whose name stands there among the names
-clause_at : (held : List HeldClause) (names : List Name) (index : ℕ) (other : Name) (d : NamedClause) → names ≡ held_names held → index < length names →
-    (index < length (clauses_of held)) × ((get_or (clauses_of held) index d).name ≡ get_or names index other)
-clause_at held names index other d are within =
-    let clauses = clauses_of held in
-    let all : names ≡ names_of clauses = are ∙ sym (names_of-clauses_of held) in
-    let same : length names ≡ length clauses = ap length all ∙ length-names_of clauses in
-    let inside : index < length clauses = omega arith in
-    (inside, sym (get_or-map (λ (c : NamedClause). c.name) clauses index d other inside) ∙ ap (λ ns. get_or ns index other) (sym all))
-
--- clauses with equal parts
 named_at : (a b : Name) (x y : List Literal) → a ≡ b → x ≡ y → (let c : NamedClause = record { name = a; lits = x } in c) ≡ record { name = b; lits = y }
 named_at a b x y name_is lits_are = cc
 
+-- a clause with these parts
 named_by : (c : NamedClause) (name : Name) (lits : List Literal) → c.name ≡ name → c.lits ≡ lits → c ≡ record { name = name; lits = lits }
 named_by c name lits name_is lits_are = named_at c.name name c.lits lits name_is lits_are
 
--- a name among those of the held clauses is found
-pub found_at : (held : List HeldClause) (names : List Name) (index : ℕ) (other : Name) → names ≡ held_names held → ArePoolClauses held → index < length names →
-    IsSome (lits_at (clauses_of held) (get_or names index other))
-found_at held names index other are pool within =
-    let clauses = clauses_of held in
-    let d : NamedClause = record { name = other; lits = [] } in
-    let at = clause_at held names index other d are within in
-    let found : lits_at clauses (get_or clauses index d).name ≡ Some (get_or clauses index d).lits =
-    All-from_recursion (λ (c : NamedClause). lits_at clauses c.name ≡ Some c.lits) clauses pool.found index d at.0 in
+-- a clause that is found under a name has its literals
+same_lits : (c : NamedClause) (name : Name) (lits : List Literal) (clauses : List NamedClause) → c.name ≡ name → lits_at clauses c.name ≡ Some c.lits →
+    lits_at clauses name ≡ Some lits → c ≡ record { name = name; lits = lits }
+same_lits c name lits clauses name_is found is =
+    named_by c name lits name_is (same_Some _ _ (sym found ∙ (ap (λ n. lits_at clauses n) name_is ∙ is)))
+
+-- the clause at the index of a row, whose name it has
+clause_at : (clauses : List NamedClause) (rows : List Row) (index : ℕ) (row : Row) (d : NamedClause) → clauses_of_rows rows ≡ clauses → index < length rows →
+    row ≡ get_or rows index row → (index < length clauses) × ((get_or clauses index d).name ≡ row.name)
+clause_at clauses rows index row d are within is =
+    let same : length clauses ≡ length rows = ap length (sym are) ∙ length-map rows clause_of_row in
+    let inside : index < length clauses = omega arith in
+    let here : get_or clauses index d ≡ clause_of_row (get_or rows index row) = ap (λ cs. get_or cs index d) (sym are) ∙ get_or-map clause_of_row rows index row d within in
+    (inside, ap (λ (c : NamedClause). c.name) here ∙ ap (λ (r : Row). r.name) (sym is))
+
+-- the name of a row is found
+pub found_at : (clauses : List NamedClause) (rows : List Row) (index : ℕ) (row : Row) → clauses_of_rows rows ≡ clauses → FindsAll (lits_at clauses) clauses → index < length rows →
+    row ≡ get_or rows index row → IsSome (lits_at clauses row.name)
+found_at clauses rows index row are finds within is =
+    let d : NamedClause = clause_of_row row in
+    let at = clause_at clauses rows index row d are within is in
+    let found = All-from_recursion (λ (c : NamedClause). lits_at clauses c.name ≡ Some c.lits) clauses finds index d at.0 in
     ap (λ n. is_some (lits_at clauses n)) (sym at.1) ∙ ap is_some found
 
--- the clauses from an index on begin with the one whose name stands there
-pub rest_at : (held : List HeldClause) (names : List Name) (index : ℕ) (other : Name) (lits : List Literal) → names ≡ held_names held → ArePoolClauses held → index < length names →
-    lits_at (clauses_of held) (get_or names index other) ≡ Some lits →
-    drop index (clauses_of held) ≡ record { name = get_or names index other; lits = lits } ∷ drop (index + 1) (clauses_of held)
-rest_at held names index other lits are pool within found =
-    let clauses = clauses_of held in
-    let d : NamedClause = record { name = other; lits = lits } in
-    let at = clause_at held names index other d are within in
-    let here : lits_at clauses (get_or clauses index d).name ≡ Some (get_or clauses index d).lits =
-    All-from_recursion (λ (c : NamedClause). lits_at clauses c.name ≡ Some c.lits) clauses pool.found index d at.0 in
-    let same : (get_or clauses index d).lits ≡ lits = same_Some _ _ (sym here ∙ (ap (λ n. lits_at clauses n) at.1 ∙ found)) in
-    drop_more clauses index d at.0 ∙ ap (λ c. c ∷ drop (index + 1) clauses) (named_by (get_or clauses index d) (get_or names index other) lits at.1 same)
+-- the clauses from an index on begin with the one of the row there
+pub rest_at : (clauses : List NamedClause) (rows : List Row) (index : ℕ) (row : Row) (lits : List Literal) → clauses_of_rows rows ≡ clauses → FindsAll (lits_at clauses) clauses →
+    index < length rows → row ≡ get_or rows index row → lits_at clauses row.name ≡ Some lits →
+    drop index clauses ≡ record { name = row.name; lits = lits } ∷ drop (index + 1) clauses
+rest_at clauses rows index row lits are finds within is found =
+    let d : NamedClause = clause_of_row row in
+    let at = clause_at clauses rows index row d are within is in
+    let here = All-from_recursion (λ (c : NamedClause). lits_at clauses c.name ≡ Some c.lits) clauses finds index d at.0 in
+    drop_more clauses index d at.0
+    ∙ ap (λ c. c ∷ drop (index + 1) clauses) (same_lits (get_or clauses index d) row.name lits clauses at.1 here found)
 
 -- a falsified clause is the conflict, where none before it is
 pub conflict-here : (trail : List Entry) (all rest after : List NamedClause) (c : NamedClause) (o : Option Literal) → conflict_of trail rest ≡ conflict_of trail all → rest ≡ c ∷ after →

@@ -1,3 +1,5 @@
 pub mod Follow
 pub mod Rising
 pub mod Gathered
+pub mod Seen
+pub mod Joined

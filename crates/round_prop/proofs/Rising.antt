@@ -1,15 +1,16 @@
--- Names in rising order: where a new one belongs, and that they stay in order.
-use Rattle.std.proofs.Common.{◌≡◌, ℕ, zero, suc, ◌≤◌, Bool, true, false, List, [], ◌∷◌, length, refl, ap, sym, ◌∙◌, arith}
+-- Names in rising order: where a row of a new one belongs, and that they stay in order.
+use Rattle.std.proofs.Common.{◌≡◌, ℕ, zero, suc, ◌≤◌, ◌<◌, Bool, true, false, List, [], ◌∷◌, length, refl, ap, sym, ◌∙◌, arith}
 use Rattle.std.specs.Prelude.{filter, insert, IsTrue, IsFalse, slice_index_or}
 use Rattle.std.specs.List.{AllByRecursion}
 use Rattle.std.specs.List.Sorted.{IsPartitionedBy, IsPartitionPoint}
 use Rattle.std.proofs.lemmas.Bool.{cond_both, cond-true, cond-false, or_parts}
-use Rattle.std.proofs.lemmas.List.Elements.{All-from_recursion}
 use Rattle.lit_base.specs.Named.{same_name}
 use Rattle.lit_base.specs.Held.{is_before, is_among}
 use Rattle.lit_base.specs.declared.name.Name.{Name}
 use Rattle.clause_pool.proofs.Order.{is_before-trans, is_before-other}
-use Rattle.round_prop.specs.Attached.{with_name, AreRising}
+use Rattle.round_prop.specs.Attached.{names_of, with_name, with_named, AreRising}
+use Rattle.round_prop.specs.Rows.{clause_of_row, clauses_of_rows}
+use Rattle.round_prop.specs.declared.row.Row.{Row}
 
 -- of two names at most one is before the other
 is_before-not : (a b : Name) → is_before a b ≡ true → is_before b a ≡ false
@@ -42,6 +43,13 @@ rising-with_name name (other ∷ later) new rising =
     (λ before. ((before, first-trans name other later before rising.0), rising))
     (λ after. (first-with other name later (is_before-other name other after apart.0) rising.0, rising-with_name name later apart.1 rising.1))
 
+-- what is before all is before the name of each row
+first_before : (name : Name) (rows : List Row) → IsFirst name (names_of (clauses_of_rows rows)) → (index : ℕ) (d : Row) → index < length rows →
+    is_before name (slice_index_or rows index d).name ≡ true
+first_before name [] first index d inside = absurd (omega arith)
+first_before name (row ∷ later) first zero d inside = first.0
+first_before name (row ∷ later) first (suc index) d inside = first_before name later first.1 index d (omega arith)
+
 first-filter : (a : Name) (p : Name → Bool) (names : List Name) → IsFirst a names → IsFirst a (filter p names)
 first-filter a p [] first = tt
 first-filter a p (other ∷ later) first =
@@ -55,27 +63,30 @@ rising-filter p (name ∷ later) rising =
     cond_both (p name) (name ∷ filter p later) (filter p later) AreRising
     (λ kept. (first-filter name p later rising.0, rising-filter p later rising.1)) (λ dropped. rising-filter p later rising.1)
 
--- the names before a name are the first ones
-pub partitioned_before : (name : Name) (names : List Name) → AreRising names → IsPartitionedBy (λ other. is_before other name) names
+-- rows whose names are before a name are the first ones
+pub partitioned_before : (name : Name) (rows : List Row) → AreRising (names_of (clauses_of_rows rows)) → IsPartitionedBy (λ row. is_before row.name name) rows
 partitioned_before name [] rising i j d low high before = absurd (omega arith)
 partitioned_before name (first ∷ later) rising zero zero d low high before = before
 partitioned_before name (first ∷ later) rising zero (suc j) d low high before =
-    is_before-trans first (slice_index_or later j d) name (All-from_recursion (λ other. IsTrue (is_before first other)) later rising.0 j d (omega arith)) before
+    is_before-trans first.name (slice_index_or later j d).name name (first_before first.name later rising.0 j d (omega arith)) before
 partitioned_before name (first ∷ later) rising (suc i) zero d low high before = absurd (omega arith)
 partitioned_before name (first ∷ later) rising (suc i) (suc j) d low high before = partitioned_before name later rising.1 i j d (omega arith) (omega arith) before
 
--- a name belongs behind those that are before it
-pub insert-place : (name : Name) (names : List Name) (place : ℕ) → IsFalse (is_among names name) → place ≤ length names →
-    IsPartitionPoint (λ other. is_before other name ≡ true) (λ other. is_before other name ≡ false) names place → insert names place name ≡ with_name name names
-insert-place name [] zero new within parts = refl
-insert-place name [] (suc place) new within parts = absurd (omega arith)
-insert-place name (first ∷ later) zero new within parts =
-    let apart = or_parts (same_name first name) (is_among later name) new in
-    let after : is_before first name ≡ false = parts.1 0 first (omega arith) (omega arith) in
-    sym (cond-true (is_before name first) (name ∷ first ∷ later) (first ∷ with_name name later) (is_before-new first name after apart.0))
-insert-place name (first ∷ later) (suc place) new within parts =
-    let apart = or_parts (same_name first name) (is_among later name) new in
-    let before : is_before first name ≡ true = parts.0 0 first (omega arith) (omega arith) in
-    ap (λ names. first ∷ names)
-    (insert-place name later place apart.1 (omega arith) (λ k d low high. parts.0 (suc k) d (omega arith) (omega arith), λ k d low high. parts.1 (suc k) d (omega arith) (omega arith)))
-    ∙ sym (cond-false (is_before name first) (name ∷ first ∷ later) (first ∷ with_name name later) (is_before-not first name before))
+-- a row belongs behind those whose names are before its own
+pub insert-place : (row : Row) (rows : List Row) (place : ℕ) → IsFalse (is_among (names_of (clauses_of_rows rows)) row.name) → place ≤ length rows →
+    IsPartitionPoint (λ other. is_before other.name row.name ≡ true) (λ other. is_before other.name row.name ≡ false) rows place →
+    clauses_of_rows (insert rows place row) ≡ with_named (clause_of_row row) (clauses_of_rows rows)
+insert-place row [] zero new within parts = refl
+insert-place row [] (suc place) new within parts = absurd (omega arith)
+insert-place row (first ∷ later) zero new within parts =
+    let apart = or_parts (same_name first.name row.name) (is_among (names_of (clauses_of_rows later)) row.name) new in
+    let after : is_before first.name row.name ≡ false = parts.1 0 first (omega arith) (omega arith) in
+    let rest = clauses_of_rows later in
+    sym (cond-true (is_before row.name first.name) (clause_of_row row ∷ clause_of_row first ∷ rest) (clause_of_row first ∷ with_named (clause_of_row row) rest) (is_before-new first.name row.name after apart.0))
+insert-place row (first ∷ later) (suc place) new within parts =
+    let apart = or_parts (same_name first.name row.name) (is_among (names_of (clauses_of_rows later)) row.name) new in
+    let before : is_before first.name row.name ≡ true = parts.0 0 first (omega arith) (omega arith) in
+    let rest = clauses_of_rows later in
+    ap (λ clauses. clause_of_row first ∷ clauses)
+    (insert-place row later place apart.1 (omega arith) (λ k d low high. parts.0 (suc k) d (omega arith) (omega arith), λ k d low high. parts.1 (suc k) d (omega arith) (omega arith)))
+    ∙ sym (cond-false (is_before row.name first.name) (clause_of_row row ∷ clause_of_row first ∷ rest) (clause_of_row first ∷ with_named (clause_of_row row) rest) (is_before-not first.name row.name before))

@@ -18,7 +18,7 @@ pub(crate) fn first_not_false(trail: &Trail, lits: &[Lit]) -> Option<Lit>
 pub(crate) fn is_unit(trail: &Trail, lits: &[Lit], first: Lit) -> bool
     ensures { result ≡ (is_free trail.now.entries first.variable && list_all (λ m. is_false trail.now.entries m || same m first) lits.now) }
 {
-    is_free(trail, first) && is_only(trail, lits, first)
+    trail.is_free(first.var()) && is_only(trail, lits, first)
 }
 
 /// Whether each literal is false on the trail or is this one.
@@ -36,16 +36,5 @@ fn is_false(trail: &Trail, lit: Lit) -> bool
         Value::False => true,
         Value::True => false,
         Value::Free => false,
-    }
-}
-
-/// Whether the literal's variable does not stand on the trail.
-pub(crate) fn is_free(trail: &Trail, lit: Lit) -> bool
-    ensures { result ≡ is_free trail.now.entries lit.variable }
-{
-    match trail.value(lit) {
-        Value::False => false,
-        Value::True => false,
-        Value::Free => true,
     }
 }

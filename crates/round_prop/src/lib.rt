@@ -2,7 +2,7 @@
 #![tactic(auto)]
 
 pub use found::Found;
-pub use laws::law_attached_follow_held;
+pub use laws::{law_attached_follow_held, law_attached_is_determined};
 pub use rounds::Rounds;
 
 mod candidate;
@@ -12,5 +12,6 @@ mod laws;
 mod names;
 mod round;
 mod rounds;
+mod row;
 #[cfg(test)]
 mod tests;

@@ -1,18 +1,22 @@
-//! Names in rising order.
-ghost use Rattle.std.specs.Prelude.{◌≡◌, ◌≤◌, IsFalse, length, insert};
+//! Rows in the rising order of their names.
+ghost use Rattle.std.specs.Prelude.{◌≡◌, ◌≤◌, IsFalse, length, map, insert};
 ghost use Rattle.lit_base.specs.Held.{is_before, is_among};
-ghost use Rattle.round_prop.specs.Attached.{with_name, AreRising};
+ghost use Rattle.round_prop.specs.Attached.{names_of, with_named, AreRising};
+ghost use Rattle.round_prop.specs.Rows.{clause_of_row, clauses_of_rows};
+ghost use Rattle.round_prop.specs.declared.row.Row.{Row};
 
+use crate::row::Row;
 use lit_base::Name;
 
-/// The place among rising names at which a name that isn't one of them belongs.
-pub(crate) fn place_for(names: &[Name], name: Name) -> usize
-    requires rising { AreRising names.now }
-    requires new { IsFalse (is_among names.now name) }
-    ensures within { result ≤ length names.now }
-    ensures place { insert names.now result name ≡ with_name name names.now }
+/// The place among rows in order at which a row of a name that isn't one of theirs belongs.
+pub(crate) fn place_for(rows: &[Row], name: Name) -> usize
+    requires rising { AreRising (names_of (clauses_of_rows rows.now)) }
+    requires new { IsFalse (is_among (names_of (clauses_of_rows rows.now)) name) }
+    ensures within { result ≤ length rows.now }
+    ensures place { (row : Row) → row.name ≡ name →
+        clauses_of_rows (insert rows.now result row) ≡ with_named (clause_of_row row) (clauses_of_rows rows.now) }
 {
-    names.partition_point(|other| is_before(*other, name))
+    rows.partition_point(|row| is_before(row.name, name))
 }
 
 /// Whether the name is one of these.

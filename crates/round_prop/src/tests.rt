@@ -1,11 +1,9 @@
-ghost use Rattle.std.specs.Prelude.{◌≡◌, ◌<◌, ◌↔◌, ℕ, length, IsTrue, All, OnOk};
-ghost use Rattle.lit_base.specs.Literal.{IsWithin};
-ghost use Rattle.lit_base.specs.Held.{clauses_of};
-ghost use Rattle.round_prop.specs.Attached.{held_names, ArePoolClauses};
+ghost use Rattle.std.specs.Prelude.{◌≡◌, ◌<◌, OnOk};
+ghost use Rattle.round_prop.specs.Propagation.{MayPropagate};
 
 use crate::{Found, Rounds};
 use clause_pool::{Pool, Steps};
-use lit_base::{Lit, Name, NoMemory, Value};
+use lit_base::{Clause, Lit, Name, NoMemory};
 use std::alloc::Global;
 use std::marker::Brand;
 use std::process::Abort;
@@ -67,13 +65,9 @@ const CASES: [Case; 6] = [
     },
 ];
 
-/// The name of the clause at this place of a formula.
+/// The name of the clause at this place, as that of a lemma, since a core drops no originals.
 fn name(index: u32) -> Name {
-    Name {
-        period: 0,
-        core: 0,
-        index,
-    }
+    Name::lemma(1, 0, index)
 }
 
 /// What is found where the clause at this place is the conflict.
@@ -84,21 +78,13 @@ fn found_at(conflict: Option<u32>) -> Found {
     }
 }
 
-/// The literals of these DIMACS numbers.
-fn lits(rt: &impl Abort, alloc: Global, numbers: &[i32]) -> Result<Vec<Lit>, NoMemory> {
+/// The clause of these DIMACS numbers.
+fn clause(rt: &impl Abort, alloc: Global, numbers: &[i32]) -> Result<Clause, NoMemory> {
     let mut lits = Vec::new(alloc);
     for number in numbers {
         lits.push(Lit::new(*number).expect(rt, "a literal"))?;
     }
-    Ok(lits)
-}
-
-/// Whether the literals' variables are at most this one.
-fn are_within(lits: &[Lit], variables: u32) -> bool
-    ensures { IsTrue result ↔ All (IsWithin variables) lits.now }
-{
-    lits.iter()
-        .all(|lit| 1 <= lit.var() && lit.var() <= variables)
+    Clause::of(alloc, &lits)
 }
 
 /// Adds a clause to the pool and attaches it.
@@ -108,30 +94,27 @@ fn hold(
     rounds: &mut Rounds,
     trail: &Trail,
     name: Name,
-    lits: &[Lit],
+    clause: &Clause,
 ) -> Result<(), NoMemory>
-    requires attached { rounds.old ≡ held_names pool.old }
-    requires pool { ArePoolClauses pool.old }
-    requires within { All (λ c. All (IsWithin (length trail.now.saved)) c.lits) (clauses_of pool.old) }
-    ensures attached { OnOk result (rounds.new ≡ held_names pool.new) }
-    ensures pool { OnOk result (ArePoolClauses pool.new) }
-    ensures within { OnOk result (All (λ c. All (IsWithin (length trail.now.saved)) c.lits) (clauses_of pool.new)) }
+    requires { MayPropagate rounds.old pool.old trail.now }
+    ensures { OnOk result (MayPropagate rounds.new pool.new trail.now) }
 {
-    let variables = trail.variables();
     assert!(rt; !pool.held(name));
-    assert!(rt; are_within(lits, variables));
-    pool.add(name, lits)?;
+    assert!(rt; clause.is_within(trail.variables()));
+    pool.add(name, clause.lits())?;
     assert!(rt; pool.held(name));
     rounds.attach(pool, trail, name)
 }
 
 /// Decides a literal, once it was seen to be free.
-fn decide(rt: &impl Abort, trail: &mut Trail, lit: Lit) {
-    assert!(rt; trail.value(lit) == Value::Free && lit.var() <= trail.variables());
+fn decide(rt: &impl Abort, trail: &mut Trail, lit: Lit)
+    ensures { trail.new.saved ≡ trail.old.saved }
+{
+    assert!(rt; trail.is_free(lit.var()) && lit.var() <= trail.variables());
     trail.decide(lit);
 }
 
-/// Adds the clauses of a formula, and attaches them, in the reverse order of their names.
+/// Adds these clauses and attaches them, in the reverse order of their names.
 fn hold_all(
     rt: &impl Abort,
     alloc: Global,
@@ -140,20 +123,46 @@ fn hold_all(
     trail: &Trail,
     clauses: &[&[i32]],
 ) -> Result<(), NoMemory>
-    requires attached { rounds.old ≡ held_names pool.old }
-    requires pool { ArePoolClauses pool.old }
-    requires within { All (λ c. All (IsWithin (length trail.now.saved)) c.lits) (clauses_of pool.old) }
-    ensures attached { OnOk result (rounds.new ≡ held_names pool.new) }
-    ensures pool { OnOk result (ArePoolClauses pool.new) }
-    ensures within { OnOk result (All (λ c. All (IsWithin (length trail.now.saved)) c.lits) (clauses_of pool.new)) }
+    requires { MayPropagate rounds.old pool.old trail.now }
+    ensures { OnOk result (MayPropagate rounds.new pool.new trail.now) }
 {
     assert!(rt; clauses.len() < 10);
     for index in 0..clauses.len() {
         let place = clauses.len() - 1 - index;
-        let lits = lits(rt, alloc, clauses[place])?;
-        hold(rt, pool, rounds, trail, name(place as u32), &lits)?;
+        let clause = clause(rt, alloc, clauses[place])?;
+        hold(rt, pool, rounds, trail, name(place as u32), &clause)?;
     }
     Ok(())
+}
+
+/// Detaches and drops a clause, once it was seen to be held.
+fn release(rt: &impl Abort, pool: &mut Pool, rounds: &mut Rounds, trail: &Trail, name: Name)
+    requires { MayPropagate rounds.old pool.old trail.now }
+    ensures { MayPropagate rounds.new pool.new trail.now }
+{
+    assert!(rt; pool.held(name));
+    assert!(rt; name.period != 0);
+    rounds.detach(pool, &[name]);
+    pool.drop_names(&[name]);
+}
+
+/// Propagates, and compares what is found and what the trail then has behind a place.
+fn propagate<L: Ledger>(
+    rt: &impl Abort,
+    pool: &Pool,
+    rounds: &mut Rounds,
+    trail: &mut Trail,
+    steps: &mut Steps<L>,
+    case: &Case,
+)
+    requires { MayPropagate rounds.old pool.now trail.old }
+    ensures { MayPropagate rounds.new pool.now trail.new }
+{
+    let from = case.decided.len();
+    let level = trail.level();
+    let found = rounds.propagate(pool, trail, steps);
+    assert!(rt; found == found_at(case.conflict));
+    assert!(rt; ends_with(trail, from, level, case.implied));
 }
 
 /// Whether the trail ends with these literals at this level, each with the place of its reason.
@@ -173,8 +182,8 @@ fn ends_with(trail: &Trail, from: usize, level: u32, implied: &[(i32, u32)]) -> 
     true
 }
 
-/// Decides the case's literals, holds its clauses and compares what propagation gives; then tells of a jump and detaches
-/// the first clause.
+/// Decides the case's literals, holds its clauses and propagates, then without the first clause once more: no case has it
+/// as conflict, so nothing changes.
 fn check<L: Ledger>(
     rt: &impl Abort,
     alloc: Global,
@@ -182,21 +191,16 @@ fn check<L: Ledger>(
     case: &Case,
 ) -> Result<(), NoMemory> {
     let mut trail = Trail::with_room(alloc, 4)?;
+    let mut pool = Pool::new(alloc);
+    let mut rounds = Rounds::make(alloc, 4)?;
     for number in case.decided {
         decide(rt, &mut trail, Lit::new(*number).expect(rt, "a literal"));
     }
-    let (from, level) = (trail.len(), trail.level());
-    let mut pool = Pool::new(alloc);
-    let mut rounds = Rounds::make(alloc, 4)?;
     hold_all(rt, alloc, &mut pool, &mut rounds, &trail, case.clauses)?;
-    let found = rounds.propagate(&pool, &mut trail, steps);
-    assert!(rt; found == found_at(case.conflict));
-    assert!(rt; ends_with(&trail, from, level, case.implied));
+    propagate(rt, &pool, &mut rounds, &mut trail, steps, case);
     rounds.jumped(&trail);
-    let first = name(0);
-    if pool.held(first) {
-        rounds.detach(&pool, &[first]);
-    }
+    release(rt, &mut pool, &mut rounds, &trail, name(0));
+    propagate(rt, &pool, &mut rounds, &mut trail, steps, case);
     Ok(())
 }
 

@@ -22,7 +22,7 @@ sign_by-value_by None = refl
 sign_by-value_by (Some true) = refl
 sign_by-value_by (Some false) = refl
 
-sign_read : (values : List Value) (trail : List Entry) (v : ℕ) → ((l : Literal) → value_at values l ≡ trail_value trail l) → sign_by (get_or values (2 * v) Free) ≡ sign_of trail v
+pub sign_read : (values : List Value) (trail : List Entry) (v : ℕ) → ((l : Literal) → value_at values l ≡ trail_value trail l) → sign_by (get_or values (2 * v) Free) ≡ sign_of trail v
 sign_read values trail v are =
     ap (λ i. sign_by (get_or values i Free)) (sym (add-zero (2 * v)))
     ∙ (ap sign_by (are (record { variable = v; positive = true })) ∙ sign_by-value_by (sign_of trail v))

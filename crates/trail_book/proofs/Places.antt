@@ -1,12 +1,12 @@
 -- The place of a variable, and the entry there.
 use Rattle.std.proofs.Common.{◌≡◌, ℕ, zero, suc, ◌==◌, ◌<◌, Bool, true, false, cond, List, [], ◌∷◌, ◌++◌, length, reverse, get_or, refl, ap, ◌∙◌, sym, subst, arith}
-use Rattle.std.specs.Prelude.{Option, Some, None, IfSome, slice_get}
+use Rattle.std.specs.Prelude.{Option, Some, None, is_none, IfSome, slice_get}
 use Rattle.std.specs.List.{AllByRecursion}
 use Rattle.std.proofs.lemmas.Bool.{eqb-true}
 use Rattle.std.proofs.lemmas.List.{reverse-append, reverse-reverse, length-reverse}
 use Rattle.std.proofs.lemmas.Option.{same_Some, slice_get_read}
 use Rattle.lit_base.specs.declared.trail.Entry.{Entry}
-use Rattle.lit_base.specs.Trail.{sign_of, level_of}
+use Rattle.lit_base.specs.Trail.{sign_of, is_free, level_of}
 use Rattle.trail_book.specs.TrailState.{place_of}
 
 -- an item within the front of a list
@@ -59,9 +59,33 @@ place_of-entry (e ∷ older) v place is = by_test (e.lit.variable == v) refl is 
           level = ap (λ b. cond b (Some e.level) (level_of older v)) other ∙ there.level;
         }
 
+-- two choices by one test are both there, or neither is
+none_with : {A B : Type 0} (a : A) (b : B) (here : Bool) (o : Option A) (p : Option B) → is_none o ≡ is_none p → is_none (cond here (Some a) o) ≡ is_none (cond here (Some b) p)
+none_with a b true o p same = refl
+none_with a b false o p same = same
+
+none_is : {A : Type 0} (o : Option A) → is_none o ≡ true → o ≡ None
+none_is None none = refl
+none_is (Some x) none = cc
+
 pub place_of-within : (trail : List Entry) (v : ℕ) (o : Option ℕ) → o ≡ place_of trail v → IfSome o (λ place. place < length trail)
 place_of-within trail v None is = tt
 place_of-within trail v (Some place) is = (place_of-entry trail v place (sym is)).within
+
+-- a variable is free where it has no level, and where it has no place
+pub level_of-is_none : (trail : List Entry) (v : ℕ) → is_none (level_of trail v) ≡ is_free trail v
+level_of-is_none [] v = refl
+level_of-is_none (e ∷ older) v = none_with e.level e.lit.positive (e.lit.variable == v) (level_of older v) (sign_of older v) (level_of-is_none older v)
+
+pub place_of-is_none : (trail : List Entry) (v : ℕ) → is_none (place_of trail v) ≡ is_free trail v
+place_of-is_none [] v = refl
+place_of-is_none (e ∷ older) v = none_with (length older) e.lit.positive (e.lit.variable == v) (place_of older v) (sign_of older v) (place_of-is_none older v)
+
+pub level_of-free : (trail : List Entry) (v : ℕ) → is_free trail v ≡ true → level_of trail v ≡ None
+level_of-free trail v free = none_is (level_of trail v) (level_of-is_none trail v ∙ free)
+
+pub place_of-free : (trail : List Entry) (v : ℕ) → is_free trail v ≡ true → place_of trail v ≡ None
+place_of-free trail v free = none_is (place_of trail v) (place_of-is_none trail v ∙ free)
 
 -- what holds of each entry holds of the one at a place, counted from the oldest
 all_end : (P : Entry → Type 0) (entries : List Entry) (e : Entry) → AllByRecursion P entries → P e → AllByRecursion P (entries ++ e ∷ [])

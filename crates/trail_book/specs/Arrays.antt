@@ -1,8 +1,8 @@
--- The arrays of a trail: the value of each literal, and the place of each variable.
+-- The arrays of a trail: the value of each literal, and the level and the place of each variable.
 use Rattle.std.specs.Prelude.{ℕ, zero, suc, ◌+◌, ◌*◌, ◌≤◌, ◌≡◌, ◌==◌, Bool, true, false, List, length, Option, Some, None, if◌then◌else◌, slice_index, slice_index_or}
 use Rattle.std.specs.Bool.{beq}
 use Rattle.lit_base.specs.Literal.{Literal}
-use Rattle.lit_base.specs.Trail.{trail_value}
+use Rattle.lit_base.specs.Trail.{trail_value, level_of}
 use Rattle.lit_base.specs.declared.trail.Value.{Value}
 use Rattle.lit_base.specs.declared.trail.Value.TheVariants.{True, False, Free}
 use Rattle.trail_book.specs.TrailState.{TrailState, IsTrail, place_of}
@@ -25,20 +25,22 @@ sign_by Free = None
 abbrev pub value_with : Literal → Value → Value → Value → Literal → Value
 value_with given own other before l = if given.variable == l.variable then (if beq given.positive l.positive then own else other) else before
 
--- a place as it is stored: one more than it is, and 0 for none
-abbrev pub place_by : ℕ → Option ℕ
-place_by zero = None
-place_by (suc place) = Some place
+-- a number that may be absent, from what is stored for it: one more than it is, and 0 where it is absent
+abbrev pub number_by : ℕ → Option ℕ
+number_by zero = None
+number_by (suc number) = Some number
 
--- the place of a variable in an array by variable, and none past its end
-abbrev pub place_at : List ℕ → ℕ → Option ℕ
-place_at places v = place_by (slice_index places v)
+-- the number of a variable in an array by variable, and none past its end
+abbrev pub number_at : List ℕ → ℕ → Option ℕ
+number_at numbers v = number_by (slice_index numbers v)
 
--- the arrays have the values and the places of the entries, with room for an entry of each variable
-pub record AreArraysOf (t : TrailState) (room : ℕ) (by_literal : List Value) (by_variable : List ℕ) : Type 0 where
+-- the arrays have the values, the levels and the places of the entries, with room for an entry of each variable
+pub record AreArraysOf (t : TrailState) (room : ℕ) (values : List Value) (levels places : List ℕ) : Type 0 where
   pub trail : IsTrail t
   pub room_for_all : length t.saved ≤ room
-  pub literals : length by_literal ≡ 2 * (length t.saved + 1)
-  pub variables : length by_variable ≡ length t.saved + 1
-  pub value : (l : Literal) → value_at by_literal l ≡ trail_value t.entries l
-  pub place : (v : ℕ) → place_at by_variable v ≡ place_of t.entries v
+  pub literals : length values ≡ 2 * (length t.saved + 1)
+  pub leveled : length levels ≡ length t.saved + 1
+  pub placed : length places ≡ length t.saved + 1
+  pub value : (l : Literal) → value_at values l ≡ trail_value t.entries l
+  pub level : (v : ℕ) → number_at levels v ≡ level_of t.entries v
+  pub place : (v : ℕ) → number_at places v ≡ place_of t.entries v

@@ -1,9 +1,9 @@
 -- The state of a trail: its entries, and the value that each variable had when it last left it.
-use Rattle.std.specs.Prelude.{ℕ, ◌≤◌, ◌==◌, Bool, List, [], ◌∷◌, length, replicate, Option, Some, None, if◌then◌else◌}
+use Rattle.std.specs.Prelude.{ℕ, ◌≤◌, ◌<◌, ◌^◌, ◌==◌, Bool, List, [], ◌∷◌, length, replicate, Option, Some, None, if◌then◌else◌}
 use Rattle.std.specs.List.{AllByRecursion}
 use Rattle.lit_base.specs.Literal.{Literal, IsWithin}
 use Rattle.lit_base.specs.Trail.{level_now, with_decision}
-use Rattle.lit_base.specs.Backjump.{cut, saved_after, with_saved}
+use Rattle.lit_base.specs.Backjump.{cut, saved_after}
 use Rattle.lit_base.specs.Fits.{HasDistinctVariables, IsLeveled}
 use Rattle.lit_base.specs.declared.trail.Entry.{Entry}
 use Rattle.lit_base.specs.declared.name.Name.{Name}
@@ -29,11 +29,6 @@ implied l reason t = record t { entries = record { lit = l; level = level_now t.
 abbrev pub jumped : ℕ → TrailState → TrailState
 jumped level t = record { entries = cut level t.entries; saved = saved_after level t.entries t.saved }
 
--- the trail without its newest entry, whose value is saved
-abbrev pub without_newest : List Entry → List (Option Bool) → TrailState
-without_newest [] saved = record { entries = []; saved = saved }
-without_newest (e ∷ older) saved = record { entries = older; saved = with_saved e saved }
-
 -- where a variable stands on the trail, if it does: the number of entries that are older than its newest one
 abbrev pub place_of : List Entry → ℕ → Option ℕ
 place_of [] v = None
@@ -41,13 +36,16 @@ place_of (e ∷ older) v = if e.lit.variable == v then Some (length older) else 
 
 -- what always holds of a trail
 pub record IsTrail (t : TrailState) : Type 0 where
-  -- there are at most 1,000,000 variables
-  pub few : length t.saved ≤ 1000000
+  -- the number of variables is a number of 32 bits
+  pub counted : length t.saved < 2 ^ 32
   -- the entries are over distinct variables, and within the variables
   pub distinct : HasDistinctVariables t.entries
   pub within : AllByRecursion (λ e. IsWithin (length t.saved) e.lit) t.entries
+  -- each entry is of a literal, so of a variable up to 1,000,000
+  pub literals : AllByRecursion (λ e. IsWithin 1000000 e.lit) t.entries
   -- levels begin at 0, never fall, rise by one exactly at a decision, and are at most the number of entries
   pub leveled : IsLeveled t.entries
   pub levels : AllByRecursion (λ e. e.level ≤ length t.entries) t.entries
-  -- there are at most as many entries as variables
+  -- there are at most as many entries as variables, and as literals have variables
   pub fits : length t.entries ≤ length t.saved
+  pub few : length t.entries ≤ 1000000

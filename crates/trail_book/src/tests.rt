@@ -55,18 +55,45 @@ fn a_trail_goes_forth_and_back(rt: HostRuntime) -> Result<(), Fail> {
         (1, 2, 2)
     );
     assert!(rt; !trail.full());
-    for (var, value, place, last) in [
-        (1, Value::True, Some(1), Some(true)),
-        (2, Value::False, Some(0), Some(false)),
-        (3, Value::Free, None, Some(false)),
-        (4, Value::Free, None, None),
+    for (var, value, level, place, last) in [
+        (1, Value::True, Some(1), Some(1), Some(true)),
+        (2, Value::False, Some(0), Some(0), Some(false)),
+        (3, Value::Free, None, None, Some(false)),
+        (4, Value::Free, None, None, None),
     ] {
         assert!(rt;
             trail.value(Lit::of(var, true)) == value,
             "the value of {var}"
         );
+        assert_eq!(rt; trail.is_free(var), place.is_none(), "{var} is free");
+        assert_eq!(rt; trail.level_of(var), level, "the level of {var}");
         assert_eq!(rt; trail.place(var), place, "the place of {var}");
         assert_eq!(rt; trail.last(var), last, "the last value of {var}");
     }
+    Ok(())
+}
+
+#[test]
+fn each_entry_that_leaves_is_given_once(rt: HostRuntime) -> Result<(), Fail> {
+    let mut trail = Trail::with_room(rt.alloc(), 4)?;
+    imply(&rt, &mut trail, Lit::of(4, true), reason(7));
+    decide(&rt, &mut trail, Lit::of(1, true));
+    decide(&rt, &mut trail, Lit::of(3, false));
+    imply(&rt, &mut trail, Lit::of(2, true), reason(8));
+    for (level, left) in [
+        (1, Some(2)),
+        (1, Some(-3)),
+        (1, None),
+        (0, Some(1)),
+        (0, None),
+    ] {
+        let entry = trail.leave(level);
+        assert_eq!(rt;
+            entry.map(|entry| entry.lit.number()),
+            left,
+            "to level {level}"
+        );
+    }
+    assert_eq!(rt; (trail.level(), trail.len()), (0, 1));
     Ok(())
 }

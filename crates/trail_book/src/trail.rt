@@ -1,11 +1,11 @@
-ghost use Rattle.std.specs.Prelude.{◌≡◌, ℕ, ◌+◌, ◌-◌, ◌*◌, ◌≤◌, ◌<◌, ◌==◌, ◌↔◌, true, Bool, Option, Some, None, [], ◌∷◌, length, reverse, replicate, IfOk, IfSome, slice_get, slice_index_or, vec_len};
+ghost use Rattle.std.specs.Prelude.{◌≡◌, ℕ, ◌+◌, ◌-◌, ◌*◌, ◌≤◌, ◌<◌, ◌==◌, ◌↔◌, true, Bool, Option, Some, None, [], ◌∷◌, length, reverse, replicate, IfOk, IfSome, IfNone, is_none, slice_get, slice_index_or, vec_len};
 ghost use Rattle.lit_base.specs.Literal.{Literal, IsWithin};
 ghost use Rattle.lit_base.specs.declared.trail.Value.TheVariants.{Free};
-ghost use Rattle.lit_base.specs.Trail.{is_free, is_full, level_now, trail_value};
-ghost use Rattle.lit_base.specs.Backjump.{last_value};
+ghost use Rattle.lit_base.specs.Trail.{is_free, is_full, level_now, level_of, trail_value};
+ghost use Rattle.lit_base.specs.Backjump.{last_value, with_saved};
 ghost use Rattle.lit_base.specs.Fits.{IsNextLevel};
-ghost use Rattle.trail_book.specs.TrailState.{first_trail, decided, implied, jumped, without_newest, place_of, IsTrail};
-ghost use Rattle.trail_book.specs.Arrays.{value_at, value_with, place_at, sign_by};
+ghost use Rattle.trail_book.specs.TrailState.{first_trail, decided, implied, jumped, place_of, IsTrail};
+ghost use Rattle.trail_book.specs.Arrays.{value_at, value_with, number_at, sign_by};
 
 use lit_base::{Entry, Lit, Name, NoMemory, Value};
 use std::alloc::Global;
@@ -16,12 +16,14 @@ use std::marker::Model;
 /// Memory is taken by `with_room` alone. After it each call takes a constant time, but `jump` a step for each entry
 /// that leaves.
 ///
-/// `entries` has the oldest entry first, with room for one of each variable; `values` is by the index of a literal,
-/// `places` by variable and one more than the place, 0 where the variable is free, and `saved` by variable from 1 on.
+/// `entries` has the oldest entry first, with room for one of each variable; `values` is by the index of a literal;
+/// `levels` and `places` are by variable, each one more than the level or the place, and 0 where the variable is free;
+/// `saved` is by variable from 1 on.
 #[derive(Debug, Drop)]
 pub struct Trail {
     entries: Vec<Entry>,
     values: Vec<Value>,
+    levels: Vec<u32>,
     places: Vec<u32>,
     saved: Vec<Option<bool>>,
 }
@@ -37,25 +39,25 @@ impl Model for Trail {
 
     ghost invariant = { λ t.
         AreArraysOf (record { entries = reverse t.entries.items; saved = t.saved.items })
-        (vec_capacity t.entries) t.values.items t.places.items };
+        (vec_capacity t.entries) t.values.items t.levels.items t.places.items };
 }
 
 impl Trail {
     /// The empty trail of so many variables, with room for an entry of each; `NoMemory` where there is none.
     pub fn with_room(alloc: Global, variables: u32) -> Result<Trail, NoMemory>
-        requires { variables ≤ 1000000 }
         ensures { IfOk result (λ trail. trail ≡ first_trail variables) }
     {
         let count = variables as usize;
         Ok(Trail {
             entries: Vec::with_capacity(alloc, count)?,
             values: free_values(alloc, 2 * (count + 1))?,
-            places: no_places(alloc, count + 1)?,
+            levels: no_numbers(alloc, count + 1)?,
+            places: no_numbers(alloc, count + 1)?,
             saved: none_saved(alloc, count)?,
         })
     }
 
-    /// The number of variables, at most 1,000,000.
+    /// The number of variables with which the trail was made.
     pub fn variables(&self) -> u32
         ensures value { result ≡ length self.now.saved }
         ensures trail { IsTrail self.now }
@@ -97,11 +99,34 @@ impl Trail {
         ensures { self.new ≡ jumped level self.old }
     {
         for _ in 0..self.len() {
-            if self.level() <= level {
+            if self.leave(level).is_none() {
                 return;
             }
-            self.pop();
         }
+    }
+
+    /// Lets the newest entry leave, if it is above a level, saves its value and gives the entry.
+    ///
+    /// Called until it gives None, it is `jump`, and gives each entry that leaves once, the newest first.
+    pub fn leave(&mut self, level: u32) -> Option<Entry>
+        ensures newest { IfSome result (λ entry. self.old.entries ≡ entry ∷ self.new.entries) }
+        ensures above { IfSome result (λ entry. level < entry.level) }
+        ensures saved { IfSome result (λ entry. self.new.saved ≡ with_saved entry self.old.saved) }
+        ensures unchanged { IfNone result (self.new ≡ self.old) }
+        ensures none { IfNone result (self.old ≡ jumped level self.old) }
+        ensures rest { jumped level self.new ≡ jumped level self.old }
+    {
+        if self.level() <= level {
+            return None;
+        }
+        let entry = self.entries.pop()?;
+        let lit = entry.lit;
+        let var = lit.var() as usize;
+        write_values(&mut self.values, lit, Value::Free, Value::Free);
+        self.levels[var] = 0;
+        self.places[var] = 0;
+        self.saved[var - 1] = Some(lit.is_positive());
+        Some(entry)
     }
 
     /// The value of a literal; one past the variables is free. `decide` and `imply` ask for a free one.
@@ -137,12 +162,28 @@ impl Trail {
         self.entries.len() == self.saved.len()
     }
 
+    /// Whether a variable has no value; one past the variables has none.
+    pub fn is_free(&self, var: u32) -> bool
+        ensures { result ≡ is_free self.now.entries var }
+    {
+        read_sign(&self.values, var).is_none()
+    }
+
+    /// The level at which a variable has its value; None where the variable is free.
+    pub fn level_of(&self, var: u32) -> Option<u32>
+        ensures value { result ≡ level_of self.now.entries var }
+        ensures free { is_none result ≡ is_free self.now.entries var }
+    {
+        read_number(&self.levels, var)
+    }
+
     /// The place of a variable's entry, counted from the oldest; None where the variable is free.
     pub fn place(&self, var: u32) -> Option<usize>
         ensures value { result ≡ place_of self.now.entries var }
+        ensures free { is_none result ≡ is_free self.now.entries var }
         ensures within { IfSome result (λ place. place < length self.now.entries) }
     {
-        read_place(&self.places, var)
+        Some(read_number(&self.places, var)? as usize)
     }
 
     /// The entry at a place, counted from 0 and from the oldest.
@@ -182,22 +223,10 @@ impl Trail {
     {
         let lit = entry.lit;
         write_values(&mut self.values, lit, Value::True, Value::False);
-        self.places[lit.var() as usize] = self.entries.len() as u32 + 1;
-        self.entries.push_reserved(entry);
-    }
-
-    /// Lets the newest entry leave, if there is one, and saves its value.
-    fn pop(&mut self)
-        ensures { self.new ≡ without_newest self.old.entries self.old.saved }
-    {
-        let Some(entry) = self.entries.pop() else {
-            return;
-        };
-        let lit = entry.lit;
         let var = lit.var() as usize;
-        write_values(&mut self.values, lit, Value::Free, Value::Free);
-        self.places[var] = 0;
-        self.saved[var - 1] = Some(lit.is_positive());
+        self.levels[var] = entry.level + 1;
+        self.places[var] = self.entries.len() as u32 + 1;
+        self.entries.push_reserved(entry);
     }
 }
 
@@ -208,9 +237,9 @@ fn free_values(alloc: Global, count: usize) -> Result<Vec<Value>, NoMemory>
     Ok(vec![in alloc; Value::Free; count]?)
 }
 
-/// So many places, none of them a variable's.
-fn no_places(alloc: Global, count: usize) -> Result<Vec<u32>, NoMemory>
-    ensures { IfOk result (λ places. places.items ≡ replicate count 0) }
+/// So many numbers, all of them absent.
+fn no_numbers(alloc: Global, count: usize) -> Result<Vec<u32>, NoMemory>
+    ensures { IfOk result (λ numbers. numbers.items ≡ replicate count 0) }
 {
     Ok(vec![in alloc; 0; count]?)
 }
@@ -250,14 +279,15 @@ fn read_sign(values: &[Value], var: u32) -> Option<bool>
     }
 }
 
-/// The place of a variable, and None past the places.
-fn read_place(places: &[u32], var: u32) -> Option<usize>
-    ensures { result ≡ place_at places.now var }
+/// The number of a variable in an array by variable, and None past its end.
+fn read_number(numbers: &[u32], var: u32) -> Option<u32>
+    ensures { result ≡ number_at numbers.now var }
 {
-    match places.get(var as usize).copied().unwrap_or(0) {
-        0 => None,
-        place => Some(place as usize - 1),
-    }
+    numbers
+        .get(var as usize)
+        .copied()
+        .unwrap_or(0)
+        .checked_sub(1)
 }
 
 /// The saved value of a variable, and None past the saved values.

@@ -11,7 +11,7 @@ ends : (g : _) (c : goal.After-found g) →
     round (clauses_of c.args.pool.now) c.loop.trail.entries ≡ propagate (length c.args.trail.now.saved) (clauses_of c.args.pool.now) c.args.trail.now.entries
 ends g c =
     let clauses = clauses_of c.args.pool.now in
-    let most = c.variables-most.result + 1 in
+    let most = c.from-most.result + 1 in
     let after = ap (λ (t : TrailState). t.entries) c.run_round-conflict.ensures.trail in
     let last =
     sym (is_last-told clauses c.loop.trail.entries c.run_round-conflict.new.trail.entries c.run_round-conflict.result c.len-seen.result c.len.result
@@ -31,7 +31,7 @@ returns-then-is_last-clause-found g c = c.found.ensures ∙ (ap found_of c.run_r
 pub loop-preserved : goal.loop-preserved
 loop-preserved g c =
     let clauses = clauses_of c.args.pool.now in
-    let most = c.variables-most.result + 1 in
+    let most = c.from-most.result + 1 in
     let after = ap (λ (t : TrailState). t.entries) c.run_round-conflict.ensures.trail in
     let on =
     sym (is_last-told clauses c.loop.trail.entries c.run_round-conflict.new.trail.entries c.run_round-conflict.result c.len-seen.result c.len.result

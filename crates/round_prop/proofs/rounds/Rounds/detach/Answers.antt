@@ -1,28 +1,44 @@
-use Rattle.std.proofs.Common.{◌≡◌, not, rules, ap, sym, ◌∙◌, subst, arith}
+use Rattle.std.proofs.Common.{◌≡◌, Bool, not, rules, ap, sym, ◌∙◌, subst, arith}
+use Rattle.std.specs.Prelude.{reverse}
 use Rattle.std.proofs.lemmas.Fn.{filter_same}
 use Rattle.lit_base.specs.Held.{is_among}
 use Rattle.lit_base.specs.declared.name.Name.{Name}
-use Rattle.round_prop.specs.Attached.{IsAttached, AreRising, names_without}
-use Rattle.round_prop.proofs.Follow.{names_of-clauses_without}
+use Rattle.round_prop.specs.Attached.{RoundsState, IsAttached, AreRising, names_of, names_without, clauses_without}
+use Rattle.round_prop.specs.Rows.{clauses_of_rows}
+use Rattle.round_prop.specs.declared.row.Row.{Row}
+use Rattle.round_prop.proofs.Follow.{names_of-clauses_without, clauses_of_rows-without, filter-reverse}
 use Rattle.round_prop.proofs.Rising.{rising-filter}
 use Rattle.round_prop.proofs.rounds.Rounds.detach.Goals as goal
+use Rattle.round_prop.proofs.rounds.Rounds.detach.Goals.{After-retain-2}
 
--- the names that are kept
-kept : (c : goal.After-retain) → c.retain.new.self.items ≡ names_without c.args.names.now c.self.inside.names.items
-kept c = filter_same _ (λ (name : Name). not (is_among c.args.names.now name)) _ (λ x b f' k. search rules) c.self.inside.names.items c.retain.new.self.items c.retain.ensures.filtered
+-- the clauses that are kept
+kept : (c : goal.After-retain-2) → clauses_of_rows c.retain.new.self.items ≡ clauses_without c.args.names.now (clauses_of_rows c.self.inside.rows.items)
+kept c =
+    let p : Row → Bool = λ (row : Row). not (is_among c.args.names.now row.name) in
+    ap clauses_of_rows (filter_same _ p _ (λ x b f' k. search rules) c.self.inside.rows.items c.retain.new.self.items c.retain.ensures.filtered)
+    ∙ clauses_of_rows-without c.args.names.now c.self.inside.rows.items
+
+-- the fresh names that are kept
+kept_fresh : (c : goal.After-retain-2) → reverse c.retain-2.new.self.items ≡ names_without c.args.names.now (reverse c.self.inside.fresh.items)
+kept_fresh c =
+    let p : Name → Bool = λ (name : Name). not (is_among c.args.names.now name) in
+    ap reverse (filter_same _ p _ (λ x b f' k. search rules) c.self.inside.fresh.items c.retain-2.new.self.items c.retain-2.ensures.filtered)
+    ∙ sym (filter-reverse p c.self.inside.fresh.items)
 
 pub invariant_of-self : goal.invariant_of-self
 invariant_of-self c = record {
-  rising = subst AreRising (sym (kept c)) (rising-filter (λ (name : Name). not (is_among c.args.names.now name)) c.self.inside.names.items c.self.invariant.rising);
+  rising =
+      subst (λ clauses. AreRising (names_of clauses)) (sym (kept c))
+      (subst AreRising (sym (names_of-clauses_without c.args.names.now (clauses_of_rows c.self.inside.rows.items)))
+      (rising-filter (λ (name : Name). not (is_among c.args.names.now name)) (names_of (clauses_of_rows c.self.inside.rows.items)) c.self.invariant.rising));
   room_for_all = omega arith;
+  seen_are = c.self.invariant.seen_are;
 }
-
-pub returns-clause-value : goal.returns-clause-value
-returns-clause-value c = kept c ∙ ap (λ names. names_without c.args.names.now names) c.self.view_is
 
 pub returns-clause-attached : goal.returns-clause-attached
 unfolding IsAttached
-returns-clause-attached c = λ attached fresh seen is.
-    kept c
-    ∙ (ap (λ names. names_without c.args.names.now names) (c.self.view_is ∙ is)
-    ∙ sym (names_of-clauses_without c.args.names.now attached))
+returns-clause-attached c = λ attached fresh seen is. (
+  kept c ∙ ap (λ clauses. clauses_without c.args.names.now clauses) (ap (λ (r : RoundsState). r.attached) c.self.view_is ∙ is.0),
+  kept_fresh c ∙ ap (λ names. names_without c.args.names.now names) (ap (λ (r : RoundsState). r.fresh) c.self.view_is ∙ is.1),
+  ap (λ (r : RoundsState). r.seen) c.self.view_is ∙ is.2,
+)

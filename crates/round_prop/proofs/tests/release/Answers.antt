@@ -1,0 +1,30 @@
+use Rattle.std.proofs.Common.{◌≡◌, true, ◌∷◌, [], sym, subst, rules}
+use Rattle.std.specs.Prelude.{is_some}
+use Rattle.std.specs.List.{IsDistinct}
+use Rattle.lit_base.specs.Named.{lits_at}
+use Rattle.lit_base.specs.Held.{clauses_of}
+use Rattle.round_prop.specs.Propagation.{MayPropagate}
+use Rattle.round_prop.proofs.Joined.{attached-without, may-without}
+use Rattle.round_prop.proofs.tests.release.Goals as goal
+
+-- a clause that is held is attached
+pub detach-requires : goal.detach-requires
+unfolding IsDistinct
+detach-requires g c =
+    let before = c.requires.attached in
+    let held : is_some (lits_at (clauses_of c.args.pool.now) c.args.name) ≡ true = search rules in
+    record { attached = record { attached = clauses_of c.args.pool.now; fresh = before.fresh; seen = before.seen; is = before.attached; found = (held, tt); distinct = (tt, tt) } }
+
+-- it is one name
+pub drop_names-requires-clause-distinct : goal.drop_names-requires-clause-distinct
+unfolding IsDistinct
+drop_names-requires-clause-distinct g c = (tt, tt)
+
+-- the others are held and attached
+pub returns : goal.returns
+returns g c =
+    let names = c.args.name ∷ [] in
+    let held = c.args.pool.now in
+    let attached = attached-without c.args.rounds.now c.detach.new.self names held c.args.trail.now.entries c.detach.ensures.attached c.requires.attached in
+    subst (λ less. MayPropagate c.detach.new.self less c.args.trail.now) (sym c.drop_names.ensures)
+    (may-without c.args.rounds.now c.detach.new.self names held c.args.trail.now attached c.detach.ensures.variables c.requires)
