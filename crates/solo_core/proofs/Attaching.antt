@@ -10,7 +10,7 @@ use Rattle.lit_base.specs.declared.name.Name.{Name}
 use Rattle.lit_base.proofs.HeldClauses.{lits_at-none}
 use Rattle.round_prop.specs.Attached.{IsAttached, held_names, with_name}
 use Rattle.round_prop.proofs.Follow.{clauses_of-with_clause, held_names-with_clause}
-use Rattle.solo_core.specs.SearchState.{IsAttachedTo}
+use Rattle.solo_core.specs.Searching.{IsAttachedTo}
 use Rattle.solo_core.proofs.Joined.{TellsHeld, found_new}
 
 -- where propagation goes over the held clauses, a name that isn't found isn't attached

@@ -14,7 +14,7 @@ use Rattle.lit_base.specs.Held.{HeldClause, clauses_of, is_before, is_original, 
 use Rattle.lit_base.specs.declared.name.Name.{Name}
 use Rattle.lit_base.proofs.HeldClauses.{same_name-true, clauses_of-with_uses}
 use Rattle.clause_pool.specs.Uses.{uses_of}
-use Rattle.solo_core.specs.SearchState.{AreFewUses}
+use Rattle.solo_core.specs.Searching.{AreFewUses}
 
 -- few uses are few for a greater bound too
 pub few_uses-more : (most more : ℕ) (held : List HeldClause) → most ≤ more → AreFewUses most held → AreFewUses more held

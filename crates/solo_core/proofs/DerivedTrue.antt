@@ -30,7 +30,7 @@ hints_true model clauses (hint ∷ hints) all = (hint_true model clauses hint al
 -- one true clause more
 true_with : (model : List Bool) (known : List NamedClause) (c : NamedClause) → AreTrueIn model known → IsTrue (is_clause_true model c.lits) → AreTrueIn model (known ++ c ∷ [])
 true_with model [] c all one = (one, tt)
-true_with model (k ∷ known) c all one = (all.0, true_with model known c all.1 one)
+true_with model (first ∷ known) c all one = (all.0, true_with model known c all.1 one)
 
 -- each lemma that is derived from true clauses is true
 pub derived_true : (model : List Bool) (known : List NamedClause) (lemmas : List Lemma) → AreTrueIn model known → AreDerived known lemmas →
@@ -57,8 +57,8 @@ last_untrue model lemmas earlier last split empty all =
     at_end (e ∷ es) here = at_end es here.1
 
 -- a stretch over the clauses of a formula that ends with Unsat says that the formula has no model
-pub unsat_refutes : (cnf : Cnf) (f : CoreFrame) (quota : ℕ) (k : CoreState) → IsSound (originals cnf) f k → (stretch f quota k).ended ≡ Unsat → HasNoModel cnf
-unsat_refutes cnf f quota k sound is model satisfied =
-    let ends = stretch_empty (originals cnf) f quota k sound is in
-    last_untrue model (stretch f quota k).state.lemmas ends.earlier ends.last ends.split ends.empty
-    (derived_true model (originals cnf) (stretch f quota k).state.lemmas (named_true model 0 cnf.clauses satisfied) (stretch_derived (originals cnf) f quota k sound))
+pub unsat_refutes : (cnf : Cnf) (frame : CoreFrame) (quota : ℕ) (state : CoreState) → IsSound (originals cnf) frame state → (stretch frame quota state).ended ≡ Unsat → HasNoModel cnf
+unsat_refutes cnf frame quota state sound is model satisfied =
+    let ends = stretch_empty (originals cnf) frame quota state sound is in
+    last_untrue model (stretch frame quota state).state.lemmas ends.earlier ends.last ends.split ends.empty
+    (derived_true model (originals cnf) (stretch frame quota state).state.lemmas (named_true model 0 cnf.clauses satisfied) (stretch_derived (originals cnf) frame quota state sound))

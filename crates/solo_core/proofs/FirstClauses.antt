@@ -8,7 +8,7 @@ use Rattle.lit_base.specs.Rounds.{NamedClause, original, named_from}
 use Rattle.lit_base.specs.Named.{same_name, lits_at}
 use Rattle.lit_base.specs.Held.{HeldClause, clauses_of, is_before, unused, with_clause}
 use Rattle.lit_base.proofs.HeldClauses.{lits_at-cons}
-use Rattle.solo_core.specs.SearchState.{AreFewUses}
+use Rattle.solo_core.specs.Searching.{AreFewUses}
 
 -- an original clause that is held, without uses
 abbrev pub held_original : ℕ → List Literal → HeldClause

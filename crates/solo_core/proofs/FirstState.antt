@@ -11,7 +11,8 @@ use Rattle.lit_base.specs.Fits.{FindsAll}
 use Rattle.lit_base.specs.declared.name.Name.{Name}
 use Rattle.lit_base.proofs.FixedPoint.{named_within}
 use Rattle.lit_base.proofs.OriginalsFound.{originals_found}
-use Rattle.solo_core.specs.State.{first_state}
+use Rattle.solo_core.specs.First.{frame_of, first_state}
+use Rattle.solo_core.specs.declared.sheet.Settings.{Settings}
 use Rattle.solo_core.specs.Soundness.{IsSound, HoldsFormula}
 use Rattle.lit_base.proofs.HeldClauses.{same_name-true, lits_at-cons}
 
@@ -30,8 +31,8 @@ no_original index (lits ∷ others) n later =
     ∙ no_original (index + 1) others n later)
 
 -- at first a core is sound
-pub first_sound : (cnf : Cnf) (core limit : ℕ) → IsFormula cnf → IsSound (originals cnf) (record { variables = cnf.variables; core = core; limit = limit }) (first_state cnf)
-first_sound cnf core limit formula =
+pub first_sound : (cnf : Cnf) (settings : Settings) (core : ℕ) → IsFormula cnf → IsSound (originals cnf) (frame_of cnf settings core) (first_state cnf settings core)
+first_sound cnf settings core formula =
     let same : originals cnf ≡ clauses_of (map unused (originals cnf)) = sym (clauses_of-unused (originals cnf)) in
     record {
       holds = record {
@@ -52,5 +53,5 @@ first_sound cnf core limit formula =
     }
 
 -- each clause of the formula is held at first
-pub first_holds : (cnf : Cnf) → HoldsFormula cnf (first_state cnf)
-first_holds cnf = subst (λ clauses. FindsAll (lits_at clauses) (originals cnf)) (sym (clauses_of-unused (originals cnf))) (originals_found cnf)
+pub first_holds : (cnf : Cnf) (settings : Settings) (core : ℕ) → HoldsFormula cnf (first_state cnf settings core)
+first_holds cnf settings core = subst (λ clauses. FindsAll (lits_at clauses) (originals cnf)) (sym (clauses_of-unused (originals cnf))) (originals_found cnf)

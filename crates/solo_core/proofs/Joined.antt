@@ -18,7 +18,8 @@ use Rattle.round_prop.specs.Attached.{names_of, held_names, with_name, with_name
 use Rattle.round_prop.proofs.Follow.{clauses_of-with_clause, held_names-with_clause}
 use Rattle.trail_book.specs.TrailState.{TrailState, jumped}
 use Rattle.solo_core.specs.Turn.{decided}
-use Rattle.solo_core.specs.SearchState.{SearchState, IsAttachedTo, IsJoined}
+use Rattle.solo_core.specs.State.{SearchState}
+use Rattle.solo_core.specs.Searching.{IsAttachedTo, IsJoined}
 
 -- an entry more, which propagation hasn't seen
 pub entry_attached : (names : List Name) (held : List HeldClause) (trail : List Entry) (e : Entry) → IsAttachedTo names held trail → IsAttachedTo names held (e ∷ trail)
@@ -122,17 +123,14 @@ abbrev pub TellsHeld : List Name → List Name → Name → List HeldClause → 
 TellsHeld before after name held = (attached : List NamedClause) (fresh : List Name) (seen : List Entry) (lits : List Literal) → IsAttached before attached fresh seen →
     lits_at (clauses_of held) name ≡ Some lits → IsAttached after (with_named (record { name = name; lits = lits }) attached) (name ∷ fresh) seen
 
--- propagation goes over the held clauses with one more, after it was attached and its hints were counted
-pub held_attached : (before after : List Name) (held : List HeldClause) (trail : List Entry) (c : HeldClause) (hints : List Name) → after ≡ with_name c.name before →
-    TellsHeld before after c.name (with_clause c held) → lits_at (clauses_of held) c.name ≡ None → IsAttachedTo before held trail → IsAttachedTo after (with_uses hints (with_clause c held)) trail
-held_attached before after held trail c hints named told free attached = record {
-  names_are = named ∙ (ap (λ names. with_name c.name names) attached.names_are ∙ (sym (held_names-with_clause c held) ∙ sym (held_names-with_uses hints (with_clause c held))));
-  fresh = c.name ∷ attached.fresh;
+-- counting uses leaves what propagation goes over
+pub uses_attached : (names : List Name) (held : List HeldClause) (trail : List Entry) (hints : List Name) → IsAttachedTo names held trail → IsAttachedTo names (with_uses hints held) trail
+uses_attached names held trail hints attached = record {
+  names_are = attached.names_are ∙ sym (held_names-with_uses hints held);
+  fresh = attached.fresh;
   seen = attached.seen;
   newer = attached.newer;
-  attached = subst (λ clauses. IsAttached after clauses (c.name ∷ attached.fresh) attached.seen)
-      (sym (clauses_of-with_uses hints (with_clause c held) ∙ clauses_of-with_clause c held))
-      (told (clauses_of held) attached.fresh attached.seen c.lits attached.attached (found_new c held free));
+  attached = subst (λ clauses. IsAttached names clauses attached.fresh attached.seen) (sym (clauses_of-with_uses hints held)) attached.attached;
   older = attached.older;
 }
 

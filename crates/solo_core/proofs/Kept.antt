@@ -1,12 +1,11 @@
 -- What the search of a core keeps, from one call of the core to the next.
 use Rattle.std.proofs.Common.{◌≡◌, ℕ, ◌≤◌, ◌<◌, ◌++◌, ap, sym, ◌∙◌, subst, arith, ◌⊎◌, inl, inr}
 use Rattle.lit_base.specs.Trail.{level_now}
-use Rattle.solo_core.specs.State.{CoreFrame, CoreState, lemma_clauses}
+use Rattle.solo_core.specs.State.{CoreFrame, CoreState, lemma_clauses, SearchState}
 use Rattle.solo_core.specs.Stretch.{stretch}
-use Rattle.solo_core.specs.Ends.{EndsByRule}
-use Rattle.solo_core.specs.SearchState.{SearchState, IsJoined}
-use Rattle.solo_core.specs.SearchSteps.{search_at}
-use Rattle.solo_core.specs.CoreValue.{IsOpen, IsSoundNext, GoesOn, IsEnded}
+use Rattle.solo_core.specs.Laws.{EndsByRule}
+use Rattle.solo_core.specs.Searching.{IsJoined, search_at}
+use Rattle.solo_core.specs.Calls.{IsOpen, IsSoundNext, GoesOn, IsEnded}
 use Rattle.solo_core.specs.declared.sheet.End.{End}
 use Rattle.solo_core.specs.declared.sheet.End.TheVariants.{Quota, Sat, Unsat, Spent}
 use Rattle.solo_core.proofs.EndRules.{ends_by_rule, spent_stays}
@@ -14,19 +13,19 @@ use Rattle.solo_core.proofs.StretchSound.{stretch_sound}
 use Rattle.solo_core.proofs.NextPeriod.{next_period_sound, next_period_others}
 
 -- by the rule of its end a stretch without an answer is at level 0
-ruled_root : (f : CoreFrame) (quota : ℕ) (k after : CoreState) (ended : End) → EndsByRule f quota k after ended → GoesOn ended → level_now after.trail ≡ 0
-ruled_root f quota k after Quota rule goes = rule.2
-ruled_root f quota k after Spent rule goes = rule.2
-ruled_root f quota k after Sat rule goes = absurd goes
-ruled_root f quota k after Unsat rule goes = absurd goes
+ruled_root : (frame : CoreFrame) (quota : ℕ) (state after : CoreState) (ended : End) → EndsByRule frame quota state after ended → GoesOn ended → level_now after.trail ≡ 0
+ruled_root frame quota state after Quota rule goes = rule.2
+ruled_root frame quota state after Spent rule goes = rule.2
+ruled_root frame quota state after Sat rule goes = absurd goes
+ruled_root frame quota state after Unsat rule goes = absurd goes
 
 -- from level 0 a stretch without an answer comes back to level 0
-stretch_root : (f : CoreFrame) (quota : ℕ) (k : CoreState) → level_now k.trail ≡ 0 → k.conflicts ≤ f.limit → GoesOn (stretch f quota k).ended → level_now (stretch f quota k).state.trail ≡ 0
-stretch_root f quota k root limit goes = by_limit (let split : (k.conflicts ≡ f.limit) ⊎ (k.conflicts < f.limit) = grind arith in split)
+stretch_root : (frame : CoreFrame) (quota : ℕ) (state : CoreState) → level_now state.trail ≡ 0 → state.conflicts ≤ frame.limit → GoesOn (stretch frame quota state).ended → level_now (stretch frame quota state).state.trail ≡ 0
+stretch_root frame quota state root limit goes = by_limit (let split : (state.conflicts ≡ frame.limit) ⊎ (state.conflicts < frame.limit) = grind arith in split)
   where
-    by_limit : (k.conflicts ≡ f.limit) ⊎ (k.conflicts < f.limit) → level_now (stretch f quota k).state.trail ≡ 0
-    by_limit (inl spent) = ap (λ (j : CoreState). level_now j.trail) (spent_stays f quota k spent) ∙ root
-    by_limit (inr left) = ruled_root f quota k (stretch f quota k).state (stretch f quota k).ended (ends_by_rule f quota k left) goes
+    by_limit : (state.conflicts ≡ frame.limit) ⊎ (state.conflicts < frame.limit) → level_now (stretch frame quota state).state.trail ≡ 0
+    by_limit (inl spent) = ap (λ (j : CoreState). level_now j.trail) (spent_stays frame quota state spent) ∙ root
+    by_limit (inr left) = ruled_root frame quota state (stretch frame quota state).state (stretch frame quota state).ended (ends_by_rule frame quota state left) goes
 
 -- what a core keeps after the stretch of a period
 pub stretch_ended : (s after : SearchState) (quota : ℕ) (ended : End) → IsOpen s → after ≡ search_at s.frame (stretch s.frame quota s.state).state →

@@ -12,10 +12,9 @@ use Rattle.lit_base.proofs.LessonHints.{hints_found}
 use Rattle.lit_base.proofs.HintsDistinct.{hints_distinct}
 use Rattle.trail_book.specs.TrailState.{TrailState, jumped}
 use Rattle.solo_core.specs.declared.lemma.Lemma.{Lemma}
-use Rattle.solo_core.specs.State.{lemma_name, lemma_clause, lemma_clauses}
+use Rattle.solo_core.specs.State.{lemma_name, lemma_clause, lemma_clauses, SearchState}
 use Rattle.solo_core.specs.Turn.{look_of, with_lemma}
-use Rattle.solo_core.specs.SearchState.{SearchState, IsAttachedTo, AreFewUses, IsJoined, IsReady}
-use Rattle.solo_core.specs.SearchSteps.{IsLesson}
+use Rattle.solo_core.specs.Searching.{IsAttachedTo, AreFewUses, IsJoined, IsReady, IsLesson}
 use Rattle.solo_core.proofs.Derived.{next_is_fresh}
 use Rattle.solo_core.proofs.SoundClauses.{missed_before}
 use Rattle.solo_core.proofs.SoundLearnt.{conflict_asserting, held_lemma}

@@ -19,3 +19,4 @@ pub mod Learnt
 pub mod Searched
 pub mod Stretching
 pub mod Kept
+pub mod Sheets

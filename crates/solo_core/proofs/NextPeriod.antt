@@ -19,19 +19,19 @@ use Rattle.solo_core.proofs.Derived.{found_behind, others_not_found}
 use Rattle.solo_core.proofs.SoundClauses.{added_sound, added_holds, fresh_with}
 
 -- a name that isn't known, and is no lemma's of the period, isn't known when the period is over
-unknown_after : (base : List NamedClause) (f : CoreFrame) (k : CoreState) (name : Name) → IsSound base f k → k.period ≤ name.period →
-    ((place : ℕ) → name ≡ lemma_name k.period f.core place → ⊥) → lits_at (base ++ lemma_clauses k.lemmas) name ≡ None
-unknown_after base f k name sound late other =
-    found_behind base (lemma_clauses k.lemmas) name (sound.derives.fresh name late) ∙ others_not_found k.period f.core k.lemmas name other sound.derives.named
+unknown_after : (base : List NamedClause) (frame : CoreFrame) (state : CoreState) (name : Name) → IsSound base frame state → state.period ≤ name.period →
+    ((place : ℕ) → name ≡ lemma_name state.period frame.core place → ⊥) → lits_at (base ++ lemma_clauses state.lemmas) name ≡ None
+unknown_after base frame state name sound late other =
+    found_behind base (lemma_clauses state.lemmas) name (sound.derives.fresh name late) ∙ others_not_found state.period frame.core state.lemmas name other sound.derives.named
 
 -- a period may end: what it derived is known in the next
-pub next_period_sound : (base : List NamedClause) (f : CoreFrame) (k : CoreState) → IsSound base f k → IsSound (base ++ lemma_clauses k.lemmas) f (in_next_period k)
-next_period_sound base f k sound = record {
+pub next_period_sound : (base : List NamedClause) (frame : CoreFrame) (state : CoreState) → IsSound base frame state → IsSound (base ++ lemma_clauses state.lemmas) frame (in_next_period state)
+next_period_sound base frame state sound = record {
   holds = sound.holds;
   derives = record {
-    carried = subst (λ known. FindsMore (look_of k) (lits_at known) (λ name. name)) (sym (append-nil (base ++ lemma_clauses k.lemmas))) sound.derives.carried;
-    fresh = λ name late. unknown_after base f k name sound (omega (arith, late))
-        (λ place same. let e : name.period ≡ k.period = ap (λ n. n.period) same in omega (arith, late));
+    carried = subst (λ known. FindsMore (look_of state) (lits_at known) (λ name. name)) (sym (append-nil (base ++ lemma_clauses state.lemmas))) sound.derives.carried;
+    fresh = λ name late. unknown_after base frame state name sound (omega (arith, late))
+        (λ place same. let e : name.period ≡ state.period = ap (λ n. n.period) same in omega (arith, late));
     named = tt;
     derived = tt;
     none_empty = tt;
@@ -40,9 +40,9 @@ next_period_sound base f k sound = record {
 }
 
 -- and no clause of another core has come in this period
-pub next_period_others : (base : List NamedClause) (f : CoreFrame) (k : CoreState) → IsSound base f k → NoneOfOthers (base ++ lemma_clauses k.lemmas) k.period f.core
-next_period_others base f k sound name now other =
-    unknown_after base f k name sound (omega (arith, now)) (λ place same. other (ap (λ n. n.core) same))
+pub next_period_others : (base : List NamedClause) (frame : CoreFrame) (state : CoreState) → IsSound base frame state → NoneOfOthers (base ++ lemma_clauses state.lemmas) state.period frame.core
+next_period_others base frame state sound name now other =
+    unknown_after base frame state name sound (omega (arith, now)) (λ place same. other (ap (λ n. n.core) same))
 
 -- clauses of earlier periods, each new after those before it
 abbrev AreNew : ℕ → ℕ → List NamedClause → List NamedClause → Type 0
@@ -51,19 +51,19 @@ AreNew variables period known (c ∷ later) =
     All (IsWithin variables) c.lits × (lits_at known c.name ≡ None) × (c.name.period < period) × AreNew variables period (known ++ c ∷ []) later
 
 -- clauses are added one after the other
-more_sound : (clauses base : List NamedClause) (f : CoreFrame) (k : CoreState) → IsSound base f k → level_now k.trail ≡ 0 → AreNew f.variables k.period base clauses →
-    IsSound (base ++ clauses) f (with_more clauses k)
-more_sound [] base f k sound root new = subst (λ known. IsSound known f k) (sym (append-nil base)) sound
-more_sound (c ∷ later) base f k sound root new =
-    subst (λ known. IsSound known f (with_more (c ∷ later) k)) (append_assoc base (c ∷ []) later)
-    (more_sound later (base ++ c ∷ []) f (with_added c k) (added_sound base f k c sound root new.0 new.1 new.2) root new.3)
+more_sound : (clauses base : List NamedClause) (frame : CoreFrame) (state : CoreState) → IsSound base frame state → level_now state.trail ≡ 0 → AreNew frame.variables state.period base clauses →
+    IsSound (base ++ clauses) frame (with_more clauses state)
+more_sound [] base frame state sound root new = subst (λ known. IsSound known frame state) (sym (append-nil base)) sound
+more_sound (c ∷ later) base frame state sound root new =
+    subst (λ known. IsSound known frame (with_more (c ∷ later) state)) (append_assoc base (c ∷ []) later)
+    (more_sound later (base ++ c ∷ []) frame (with_added c state) (added_sound base frame state c sound root new.0 new.1 new.2) root new.3)
 
-more_holds : (cnf : Cnf) (clauses base : List NamedClause) (f : CoreFrame) (k : CoreState) → IsSound base f k → level_now k.trail ≡ 0 → AreNew f.variables k.period base clauses →
-    HoldsFormula cnf k → HoldsFormula cnf (with_more clauses k)
-more_holds cnf [] base f k sound root new holds = holds
-more_holds cnf (c ∷ later) base f k sound root new holds =
-    more_holds cnf later (base ++ c ∷ []) f (with_added c k) (added_sound base f k c sound root new.0 new.1 new.2) root new.3
-    (added_holds cnf base f k c sound new.1 new.2 holds)
+more_holds : (cnf : Cnf) (clauses base : List NamedClause) (frame : CoreFrame) (state : CoreState) → IsSound base frame state → level_now state.trail ≡ 0 → AreNew frame.variables state.period base clauses →
+    HoldsFormula cnf state → HoldsFormula cnf (with_more clauses state)
+more_holds cnf [] base frame state sound root new holds = holds
+more_holds cnf (c ∷ later) base frame state sound root new holds =
+    more_holds cnf later (base ++ c ∷ []) frame (with_added c state) (added_sound base frame state c sound root new.0 new.1 new.2) root new.3
+    (added_holds cnf base frame state c sound new.1 new.2 holds)
 
 -- no name of this period of another core, from this core on, is known
 abbrev NoneOfOthersFrom : List NamedClause → ℕ → ℕ → ℕ → Type 0
@@ -106,17 +106,17 @@ mails_new variables period own core (mail ∷ later) known mails fresh =
     (λ more none. mails_new variables period own (mail.core + 1) later more mails.3 none)
 
 -- what the mails post is new to a core whose period is over
-imports_new : (base : List NamedClause) (f : CoreFrame) (k : CoreState) (mails : List Mail) → NoneOfOthers base k.period f.core → AreMails f.variables k.period f.core 0 mails →
-    AreNew f.variables (k.period + 1) base (clauses_posted mails)
-imports_new base f k mails others are = mails_new f.variables k.period f.core 0 mails base are (λ name now apart from. others name now apart)
+imports_new : (base : List NamedClause) (frame : CoreFrame) (state : CoreState) (mails : List Mail) → NoneOfOthers base state.period frame.core → AreMails frame.variables state.period frame.core 0 mails →
+    AreNew frame.variables (state.period + 1) base (clauses_posted mails)
+imports_new base frame state mails others are = mails_new frame.variables state.period frame.core 0 mails base are (λ name now apart from. others name now apart)
 
 -- an import keeps what is sound
-pub import_sound : (base : List NamedClause) (f : CoreFrame) (k : CoreState) (mails : List Mail) → IsSound base f (in_next_period k) → NoneOfOthers base k.period f.core →
-    level_now k.trail ≡ 0 → AreMails f.variables k.period f.core 0 mails → IsSound (base ++ clauses_posted mails) f (after_import mails k)
-import_sound base f k mails sound others root are = more_sound (clauses_posted mails) base f (in_next_period k) sound root (imports_new base f k mails others are)
+pub import_sound : (base : List NamedClause) (frame : CoreFrame) (state : CoreState) (mails : List Mail) → IsSound base frame (in_next_period state) → NoneOfOthers base state.period frame.core →
+    level_now state.trail ≡ 0 → AreMails frame.variables state.period frame.core 0 mails → IsSound (base ++ clauses_posted mails) frame (after_import mails state)
+import_sound base frame state mails sound others root are = more_sound (clauses_posted mails) base frame (in_next_period state) sound root (imports_new base frame state mails others are)
 
 -- and a formula that is held
-pub import_holds : (cnf : Cnf) (base : List NamedClause) (f : CoreFrame) (k : CoreState) (mails : List Mail) → IsSound base f (in_next_period k) → NoneOfOthers base k.period f.core →
-    level_now k.trail ≡ 0 → AreMails f.variables k.period f.core 0 mails → HoldsFormula cnf k → HoldsFormula cnf (after_import mails k)
-import_holds cnf base f k mails sound others root are holds =
-    more_holds cnf (clauses_posted mails) base f (in_next_period k) sound root (imports_new base f k mails others are) holds
+pub import_holds : (cnf : Cnf) (base : List NamedClause) (frame : CoreFrame) (state : CoreState) (mails : List Mail) → IsSound base frame (in_next_period state) → NoneOfOthers base state.period frame.core →
+    level_now state.trail ≡ 0 → AreMails frame.variables state.period frame.core 0 mails → HoldsFormula cnf state → HoldsFormula cnf (after_import mails state)
+import_holds cnf base frame state mails sound others root are holds =
+    more_holds cnf (clauses_posted mails) base frame (in_next_period state) sound root (imports_new base frame state mails others are) holds

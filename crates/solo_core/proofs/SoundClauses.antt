@@ -99,43 +99,43 @@ quiet_at_root : (trail : List Entry) (clauses : List NamedClause) → level_now 
 quiet_at_root trail clauses root level low = absurd (omega (arith, root))
 
 -- a clause of an earlier period that isn't known isn't held
-added_free : (base : List NamedClause) (f : CoreFrame) (k : CoreState) (c : NamedClause) → IsSound base f k → lits_at base c.name ≡ None → c.name.period < k.period →
-    lits_at (clauses_of k.clauses) c.name ≡ None
-added_free base f k c sound new before =
-    missed_before (look_of k) (lits_at (base ++ lemma_clauses k.lemmas)) c.name sound.derives.carried
-    (not_found_in_both base k.period f.core k.lemmas c.name new (λ place. earlier_name c.name k.period f.core place before) sound.derives.named)
+added_free : (base : List NamedClause) (frame : CoreFrame) (state : CoreState) (c : NamedClause) → IsSound base frame state → lits_at base c.name ≡ None → c.name.period < state.period →
+    lits_at (clauses_of state.clauses) c.name ≡ None
+added_free base frame state c sound new before =
+    missed_before (look_of state) (lits_at (base ++ lemma_clauses state.lemmas)) c.name sound.derives.carried
+    (not_found_in_both base state.period frame.core state.lemmas c.name new (λ place. earlier_name c.name state.period frame.core place before) sound.derives.named)
 
 -- any clause of an earlier period and a new name may be added at level 0
-pub added_sound : (base : List NamedClause) (f : CoreFrame) (k : CoreState) (c : NamedClause) → IsSound base f k → level_now k.trail ≡ 0 → All (IsWithin f.variables) c.lits →
-    lits_at base c.name ≡ None → c.name.period < k.period → IsSound (base ++ c ∷ []) f (with_added c k)
-added_sound base f k c sound root within new before =
-    let free = added_free base f k c sound new before in
-    let fresh = none_from-with base k.period c before sound.derives.fresh in
+pub added_sound : (base : List NamedClause) (frame : CoreFrame) (state : CoreState) (c : NamedClause) → IsSound base frame state → level_now state.trail ≡ 0 → All (IsWithin frame.variables) c.lits →
+    lits_at base c.name ≡ None → c.name.period < state.period → IsSound (base ++ c ∷ []) frame (with_added c state)
+added_sound base frame state c sound root within new before =
+    let free = added_free base frame state c sound new before in
+    let fresh = none_from-with base state.period c before sound.derives.fresh in
     record {
       holds = record {
-        found = found-with (unused c) k.clauses free sound.holds.found;
-        within = All-with (λ d. All (IsWithin f.variables) d.lits) (unused c) k.clauses within sound.holds.within;
-        fitting = fitting-more (look_of k) (look_of (with_added c k)) k.trail (finds_more-with (unused c) k.clauses free) sound.holds.fitting;
+        found = found-with (unused c) state.clauses free sound.holds.found;
+        within = All-with (λ d. All (IsWithin frame.variables) d.lits) (unused c) state.clauses within sound.holds.within;
+        fitting = fitting-more (look_of state) (look_of (with_added c state)) state.trail (finds_more-with (unused c) state.clauses free) sound.holds.fitting;
         trail_within = sound.holds.trail_within;
-        quiet = quiet_at_root k.trail (clauses_of (with_clause (unused c) k.clauses)) root;
+        quiet = quiet_at_root state.trail (clauses_of (with_clause (unused c) state.clauses)) root;
       };
       derives = record {
-        carried = subst (λ known. FindsMore (look_of (with_added c k)) (lits_at known) (λ name. name)) (sym (append_assoc base (c ∷ []) (lemma_clauses k.lemmas)))
-            (carried_with (unused c) k.clauses base (lemma_clauses k.lemmas) sound.derives.carried free new);
+        carried = subst (λ known. FindsMore (look_of (with_added c state)) (lits_at known) (λ name. name)) (sym (append_assoc base (c ∷ []) (lemma_clauses state.lemmas)))
+            (carried_with (unused c) state.clauses base (lemma_clauses state.lemmas) sound.derives.carried free new);
         fresh = fresh;
         named = sound.derives.named;
-        derived = derived_from_more base (base ++ c ∷ []) k.lemmas (λ n lits is. found_in_front base (c ∷ []) n lits is)
-            (lemmas_not_found (base ++ c ∷ []) k.period f.core 0 k.lemmas fresh sound.derives.named) sound.derives.derived;
+        derived = derived_from_more base (base ++ c ∷ []) state.lemmas (λ n lits is. found_in_front base (c ∷ []) n lits is)
+            (lemmas_not_found (base ++ c ∷ []) state.period frame.core 0 state.lemmas fresh sound.derives.named) sound.derives.derived;
         none_empty = sound.derives.none_empty;
         lemmas_within = sound.derives.lemmas_within;
       };
     }
 
-pub added_holds : (cnf : Cnf) (base : List NamedClause) (f : CoreFrame) (k : CoreState) (c : NamedClause) → IsSound base f k → lits_at base c.name ≡ None →
-    c.name.period < k.period → HoldsFormula cnf k → HoldsFormula cnf (with_added c k)
-added_holds cnf base f k c sound new before holds =
-    let free = added_free base f k c sound new before in
-    finds_all-more (look_of k) (look_of (with_added c k)) (originals cnf) (finds_more-with (unused c) k.clauses free) holds
+pub added_holds : (cnf : Cnf) (base : List NamedClause) (frame : CoreFrame) (state : CoreState) (c : NamedClause) → IsSound base frame state → lits_at base c.name ≡ None →
+    c.name.period < state.period → HoldsFormula cnf state → HoldsFormula cnf (with_added c state)
+added_holds cnf base frame state c sound new before holds =
+    let free = added_free base frame state c sound new before in
+    finds_all-more (look_of state) (look_of (with_added c state)) (originals cnf) (finds_more-with (unused c) state.clauses free) holds
 
 -- a reason that isn't dropped still implies its literal
 reason_stays : (names : List Name) (held : List HeldClause) (older : List Entry) (l : Literal) (reason : Option Name) → IsOther names reason → HasReason (lits_at (clauses_of held)) older l reason →
@@ -159,17 +159,17 @@ finds_less names held n lits is = by_name (is_among names n) (sym (lits_at-witho
     by_name false found = found
 
 -- any clauses that are no reasons may be dropped
-pub dropped_sound : (base : List NamedClause) (f : CoreFrame) (k : CoreState) (names : List Name) → IsSound base f k → AreNoReasons names k.trail → IsSound base f (with_dropped names k)
-dropped_sound base f k names sound others = record {
+pub dropped_sound : (base : List NamedClause) (frame : CoreFrame) (state : CoreState) (names : List Name) → IsSound base frame state → AreNoReasons names state.trail → IsSound base frame (with_dropped names state)
+dropped_sound base frame state names sound others = record {
   holds = record {
-    found = found-without names k.clauses sound.holds.found;
-    within = All-without (λ d. All (IsWithin f.variables) d.lits) names k.clauses sound.holds.within;
-    fitting = record { distinct = sound.holds.fitting.distinct; fits = reasons_stay names k.clauses k.trail others sound.holds.fitting.fits; leveled = sound.holds.fitting.leveled };
+    found = found-without names state.clauses sound.holds.found;
+    within = All-without (λ d. All (IsWithin frame.variables) d.lits) names state.clauses sound.holds.within;
+    fitting = record { distinct = sound.holds.fitting.distinct; fits = reasons_stay names state.clauses state.trail others sound.holds.fitting.fits; leveled = sound.holds.fitting.leveled };
     trail_within = sound.holds.trail_within;
-    quiet = λ level low. all-without (λ c. IsQuiet (cut level k.trail) c.lits) names k.clauses (sound.holds.quiet level low);
+    quiet = λ level low. all-without (λ c. IsQuiet (cut level state.trail) c.lits) names state.clauses (sound.holds.quiet level low);
   };
-  derives = carried_sound base f k.period k.clauses (without_names names k.clauses) k.lemmas sound.derives
-      (λ n lits is. sound.derives.carried n lits (finds_less names k.clauses n lits is));
+  derives = carried_sound base frame state.period state.clauses (without_names names state.clauses) state.lemmas sound.derives
+      (λ n lits is. sound.derives.carried n lits (finds_less names state.clauses n lits is));
 }
 
 -- no original is among names that are none
@@ -190,5 +190,5 @@ originals_stay names held index (lits ∷ later) others found = (
   originals_stay names held (index + 1) later others found.1,
 )
 
-pub dropped_holds : (cnf : Cnf) (k : CoreState) (names : List Name) → HoldsFormula cnf k → AllByRecursion (λ name. IsFalse (is_original name)) names → HoldsFormula cnf (with_dropped names k)
-dropped_holds cnf k names holds others = originals_stay names k.clauses 0 cnf.clauses others holds
+pub dropped_holds : (cnf : Cnf) (state : CoreState) (names : List Name) → HoldsFormula cnf state → AllByRecursion (λ name. IsFalse (is_original name)) names → HoldsFormula cnf (with_dropped names state)
+dropped_holds cnf state names holds others = originals_stay names state.clauses 0 cnf.clauses others holds

@@ -24,26 +24,26 @@ use Rattle.solo_core.specs.Soundness.{IsDeriving, IsSound}
 
 -- the trail after propagation
 abbrev propagated_trail : CoreFrame → CoreState → List Entry
-propagated_trail f k = (propagated f k).trail
+propagated_trail frame state = (propagated frame state).trail
 
 -- at a level below the current one propagation changes nothing
-quiet_below_propagated : (base : List NamedClause) (f : CoreFrame) (k : CoreState) → IsSound base f k → level_now (propagated_trail f k) ≡ level_now k.trail →
-    AreQuietBelow (propagated_trail f k) (clauses_of k.clauses)
-quiet_below_propagated base f k sound same level low =
-    let below : level < level_now k.trail = omega (arith, same) in
-    subst (λ t. AreQuiet t (clauses_of k.clauses)) (sym (cut_propagated f.variables level (clauses_of k.clauses) k.trail below)) (sound.holds.quiet level below)
+quiet_below_propagated : (base : List NamedClause) (frame : CoreFrame) (state : CoreState) → IsSound base frame state → level_now (propagated_trail frame state) ≡ level_now state.trail →
+    AreQuietBelow (propagated_trail frame state) (clauses_of state.clauses)
+quiet_below_propagated base frame state sound same level low =
+    let below : level < level_now state.trail = omega (arith, same) in
+    subst (λ t. AreQuiet t (clauses_of state.clauses)) (sym (cut_propagated frame.variables level (clauses_of state.clauses) state.trail below)) (sound.holds.quiet level below)
 
 -- propagation keeps what is sound
-pub propagated_sound : (base : List NamedClause) (f : CoreFrame) (k : CoreState) → IsSound base f k → IsSound base f (after_propagation f k)
-propagated_sound base f k sound =
-    let fits = propagation_fits (look_of k) f.variables (clauses_of k.clauses) k.trail sound.holds.found sound.holds.fitting in
+pub propagated_sound : (base : List NamedClause) (frame : CoreFrame) (state : CoreState) → IsSound base frame state → IsSound base frame (after_propagation frame state)
+propagated_sound base frame state sound =
+    let fits = propagation_fits (look_of state) frame.variables (clauses_of state.clauses) state.trail sound.holds.found sound.holds.fitting in
     record {
       holds = record {
         found = sound.holds.found;
         within = sound.holds.within;
         fitting = fits.fitting;
-        trail_within = propagate_within f.variables f.variables (clauses_of k.clauses) k.trail sound.holds.within sound.holds.trail_within;
-        quiet = quiet_below_propagated base f k sound fits.level;
+        trail_within = propagate_within frame.variables frame.variables (clauses_of state.clauses) state.trail sound.holds.within sound.holds.trail_within;
+        quiet = quiet_below_propagated base frame state sound fits.level;
       };
       derives = sound.derives;
     }
@@ -61,43 +61,43 @@ quiet_below_decision l trail clauses quiet below level low =
     by_level (inr lower) = below level lower
 
 -- any free variable may be decided after propagation without a conflict
-pub decided_sound : (base : List NamedClause) (f : CoreFrame) (k : CoreState) (l : Literal) → IsSound base f k → (propagated f k).conflict ≡ None → IsWithin f.variables l →
-    is_free (propagated f k).trail l.variable ≡ true → IsSound base f (decided l (after_propagation f k))
-decided_sound base f k l sound none within free =
-    let moved = propagated_sound base f k sound in
+pub decided_sound : (base : List NamedClause) (frame : CoreFrame) (state : CoreState) (l : Literal) → IsSound base frame state → (propagated frame state).conflict ≡ None → IsWithin frame.variables l →
+    is_free (propagated frame state).trail l.variable ≡ true → IsSound base frame (decided l (after_propagation frame state))
+decided_sound base frame state l sound none within free =
+    let moved = propagated_sound base frame state sound in
     record {
       holds = record {
         found = sound.holds.found;
         within = sound.holds.within;
         fitting = record { distinct = (free, moved.holds.fitting.distinct); fits = (tt, moved.holds.fitting.fits); leveled = (refl, moved.holds.fitting.leveled) };
         trail_within = (within, moved.holds.trail_within);
-        quiet = quiet_below_decision l (propagated_trail f k) (clauses_of k.clauses) (fix_quiet f.variables (clauses_of k.clauses) k.trail sound.holds.within none) moved.holds.quiet;
+        quiet = quiet_below_decision l (propagated_trail frame state) (clauses_of state.clauses) (fix_quiet frame.variables (clauses_of state.clauses) state.trail sound.holds.within none) moved.holds.quiet;
       };
       derives = sound.derives;
     }
 
-quiet_below_cut : (base : List NamedClause) (f : CoreFrame) (k : CoreState) (level : ℕ) → IsSound base f k → AreQuietBelow (cut level k.trail) (clauses_of k.clauses)
-quiet_below_cut base f k level sound lower low =
-    subst (λ t. AreQuiet t (clauses_of k.clauses)) (sym (cut_cut lower level k.trail (omega (arith, low, level_now-cut-le level k.trail))))
-    (sound.holds.quiet lower (omega (arith, low, level_now-cut-mono level k.trail sound.holds.fitting.leveled)))
+quiet_below_cut : (base : List NamedClause) (frame : CoreFrame) (state : CoreState) (level : ℕ) → IsSound base frame state → AreQuietBelow (cut level state.trail) (clauses_of state.clauses)
+quiet_below_cut base frame state level sound lower low =
+    subst (λ t. AreQuiet t (clauses_of state.clauses)) (sym (cut_cut lower level state.trail (omega (arith, low, level_now-cut-le level state.trail))))
+    (sound.holds.quiet lower (omega (arith, low, level_now-cut-mono level state.trail sound.holds.fitting.leveled)))
 
 -- a jump keeps what is sound
-pub jumped_sound : (base : List NamedClause) (f : CoreFrame) (k : CoreState) (level : ℕ) → IsSound base f k → IsSound base f (jumped level k)
-jumped_sound base f k level sound = record {
+pub jumped_sound : (base : List NamedClause) (frame : CoreFrame) (state : CoreState) (level : ℕ) → IsSound base frame state → IsSound base frame (jumped level state)
+jumped_sound base frame state level sound = record {
   holds = record {
     found = sound.holds.found;
     within = sound.holds.within;
-    fitting = cut_fitting (look_of k) level k.trail sound.holds.fitting;
-    trail_within = cut_within f.variables level k.trail sound.holds.trail_within;
-    quiet = quiet_below_cut base f k level sound;
+    fitting = cut_fitting (look_of state) level state.trail sound.holds.fitting;
+    trail_within = cut_within frame.variables level state.trail sound.holds.trail_within;
+    quiet = quiet_below_cut base frame state level sound;
   };
   derives = sound.derives;
 }
 
 -- the lemmas of the period derive as before where what is held now was known too
-pub carried_sound : (base : List NamedClause) (f : CoreFrame) (period : ℕ) (before after : List HeldClause) (lemmas : List Lemma) → IsDeriving base f period before lemmas →
-    FindsMore (lits_at (clauses_of after)) (lits_at (base ++ lemma_clauses lemmas)) (λ name. name) → IsDeriving base f period after lemmas
-carried_sound base f period before after lemmas derives carried = record {
+pub carried_sound : (base : List NamedClause) (frame : CoreFrame) (period : ℕ) (before after : List HeldClause) (lemmas : List Lemma) → IsDeriving base frame period before lemmas →
+    FindsMore (lits_at (clauses_of after)) (lits_at (base ++ lemma_clauses lemmas)) (λ name. name) → IsDeriving base frame period after lemmas
+carried_sound base frame period before after lemmas derives carried = record {
   carried = carried;
   fresh = derives.fresh;
   named = derives.named;
@@ -107,15 +107,15 @@ carried_sound base f period before after lemmas derives carried = record {
 }
 
 -- the same clauses with other uses
-pub uses_sound : (base : List NamedClause) (f : CoreFrame) (k : CoreState) (held : List HeldClause) → IsSound base f k → clauses_of held ≡ clauses_of k.clauses → IsSound base f (with_clauses held k)
-uses_sound base f k held sound same = record {
+pub uses_sound : (base : List NamedClause) (frame : CoreFrame) (state : CoreState) (held : List HeldClause) → IsSound base frame state → clauses_of held ≡ clauses_of state.clauses → IsSound base frame (with_clauses held state)
+uses_sound base frame state held sound same = record {
   holds = record {
     found = subst (λ cs. FindsAll (lits_at cs) cs) (sym same) sound.holds.found;
-    within = subst (λ cs. All (λ c. All (IsWithin f.variables) c.lits) cs) (sym same) sound.holds.within;
-    fitting = subst (λ cs. IsFitting (lits_at cs) k.trail) (sym same) sound.holds.fitting;
+    within = subst (λ cs. All (λ c. All (IsWithin frame.variables) c.lits) cs) (sym same) sound.holds.within;
+    fitting = subst (λ cs. IsFitting (lits_at cs) state.trail) (sym same) sound.holds.fitting;
     trail_within = sound.holds.trail_within;
-    quiet = subst (λ cs. AreQuietBelow k.trail cs) (sym same) sound.holds.quiet;
+    quiet = subst (λ cs. AreQuietBelow state.trail cs) (sym same) sound.holds.quiet;
   };
-  derives = carried_sound base f k.period k.clauses held k.lemmas sound.derives
-      (subst (λ cs. FindsMore (lits_at cs) (lits_at (base ++ lemma_clauses k.lemmas)) (λ name. name)) (sym same) sound.derives.carried);
+  derives = carried_sound base frame state.period state.clauses held state.lemmas sound.derives
+      (subst (λ cs. FindsMore (lits_at cs) (lits_at (base ++ lemma_clauses state.lemmas)) (λ name. name)) (sym same) sound.derives.carried);
 }

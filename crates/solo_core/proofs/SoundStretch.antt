@@ -28,33 +28,33 @@ use Rattle.solo_core.specs.State.{CoreFrame, CoreState, lemma_name, lemma_clause
 use Rattle.solo_core.specs.Turn.{Turned, look_of, propagated, last_literal, lemma_of, learnt, refuted, taught, chosen, turn_by, turn}
 use Rattle.solo_core.specs.declared.turn.TurnEnd.{TurnEnd}
 use Rattle.solo_core.specs.declared.turn.TurnEnd.TheVariants.{Decided, Learnt, Refuted, Modelled}
-use Rattle.solo_core.specs.Stretch.{Stretched, after_turn, search, ended_at_root, after_search, searches, stretch}
+use Rattle.solo_core.specs.Stretch.{Stretched, after_turn, search_to_conflict, ended_at_root, after_search, search_to_quota, stretch}
 use Rattle.solo_core.specs.Changes.{after_propagation}
 use Rattle.solo_core.specs.Soundness.{AreDerived, AreNamed, AreLemmasWithin, IsSound, EndsEmpty, IsModelFound, HoldsFormula}
 use Rattle.solo_core.specs.declared.sheet.End.{End}
 use Rattle.solo_core.specs.declared.sheet.End.TheVariants.{Quota, Sat, Unsat, Spent}
 
 -- what a refutation leaves
-pub record IsRefuted (base : List NamedClause) (f : CoreFrame) (k : CoreState) : Type 0 where
-  pub derived : AreDerived base k.lemmas
-  pub named : AreNamed k.period f.core 0 k.lemmas
-  pub lemmas_within : AreLemmasWithin f.variables k.lemmas
-  pub ends : EndsEmpty k.lemmas
+pub record IsRefuted (base : List NamedClause) (frame : CoreFrame) (state : CoreState) : Type 0 where
+  pub derived : AreDerived base state.lemmas
+  pub named : AreNamed state.period frame.core 0 state.lemmas
+  pub lemmas_within : AreLemmasWithin frame.variables state.lemmas
+  pub ends : EndsEmpty state.lemmas
 
 -- what a turn leaves, by what it came to
 abbrev pub IsTurnSound : List NamedClause → CoreFrame → CoreState → TurnEnd → Type 0
-IsTurnSound base f k Decided = IsSound base f k
-IsTurnSound base f k Learnt = IsSound base f k
-IsTurnSound base f k Modelled = IsSound base f k × IsModelFound f k
-IsTurnSound base f k Refuted = IsRefuted base f k
+IsTurnSound base frame state Decided = IsSound base frame state
+IsTurnSound base frame state Learnt = IsSound base frame state
+IsTurnSound base frame state Modelled = IsSound base frame state × IsModelFound frame state
+IsTurnSound base frame state Refuted = IsRefuted base frame state
 
 -- a formula that was held is held
 abbrev pub KeepsFormulas : CoreState → CoreState → Type 0
 KeepsFormulas before after = (cnf : Cnf) → HoldsFormula cnf before → HoldsFormula cnf after
 
 -- what a turn or a search keeps and leaves
-pub record IsTurnKept (base : List NamedClause) (f : CoreFrame) (before : CoreState) (t : Turned) : Type 0 where
-  pub sound : IsTurnSound base f t.state t.came_to
+pub record IsTurnKept (base : List NamedClause) (frame : CoreFrame) (before : CoreState) (t : Turned) : Type 0 where
+  pub sound : IsTurnSound base frame t.state t.came_to
   pub formulas : KeepsFormulas before t.state
 
 -- a full trail on which no clause is falsified makes each clause true
@@ -67,146 +67,146 @@ clauses_true n trail (c ∷ others) full within quiet = (
 )
 
 -- after propagation without a conflict: a decision of the first free variable, or a model
-chosen_kept : (base : List NamedClause) (f : CoreFrame) (k : CoreState) → IsSound base f k → (propagated f k).conflict ≡ None → (o : Option ℕ) →
-    first_free f.variables 1 (propagated f k).trail ≡ o →
-    IsTurnKept base f k (chosen (after_propagation f k) (option_map (last_literal (after_propagation f k)) o))
-chosen_kept base f k sound none None full =
-    let moved = propagated_sound base f k sound in
-    let is : is_full f.variables (propagated f k).trail ≡ true = first_free-none f.variables (propagated f k).trail full in
-    let quiet = fix_quiet f.variables (clauses_of k.clauses) k.trail sound.holds.within none in
+chosen_kept : (base : List NamedClause) (frame : CoreFrame) (state : CoreState) → IsSound base frame state → (propagated frame state).conflict ≡ None → (o : Option ℕ) →
+    first_free frame.variables 1 (propagated frame state).trail ≡ o →
+    IsTurnKept base frame state (chosen (after_propagation frame state) (option_map (last_literal (after_propagation frame state)) o))
+chosen_kept base frame state sound none None full =
+    let moved = propagated_sound base frame state sound in
+    let is : is_full frame.variables (propagated frame state).trail ≡ true = first_free-none frame.variables (propagated frame state).trail full in
+    let quiet = fix_quiet frame.variables (clauses_of state.clauses) state.trail sound.holds.within none in
     record {
-      sound = (moved, record { full = is; satisfied = clauses_true f.variables (propagated f k).trail (clauses_of k.clauses) is sound.holds.within quiet });
+      sound = (moved, record { full = is; satisfied = clauses_true frame.variables (propagated frame state).trail (clauses_of state.clauses) is sound.holds.within quiet });
       formulas = λ cnf holds. holds;
     }
-chosen_kept base f k sound none (Some v) found =
-    let first = first_free-some f.variables 1 (propagated f k).trail v found in
+chosen_kept base frame state sound none (Some v) found =
+    let first = first_free-some frame.variables 1 (propagated frame state).trail v found in
     record {
-      sound = decided_sound base f k (last_literal (after_propagation f k) v) sound none (first.1, omega (arith, first.2)) first.0;
+      sound = decided_sound base frame state (last_literal (after_propagation frame state) v) sound none (first.1, omega (arith, first.2)) first.0;
       formulas = λ cnf holds. holds;
     }
 
 -- a conflict at level 0 refutes
-refuted_sound : (base : List NamedClause) (f : CoreFrame) (k : CoreState) (conflict : Name) → IsSound base f k → IsConflict (look_of k) k.trail conflict → level_now k.trail ≡ 0 →
-    IsRefuted base f (refuted f (lesson_of (look_of k) k.trail conflict) k)
-refuted_sound base f k conflict sound is root =
-    let lesson = lesson_of (look_of k) k.trail conflict in
-    let lemma = lemma_of f k lesson in
-    let empty : lesson.lits ≡ [] = root_lesson_empty (look_of k) k.trail conflict sound.holds.fitting.leveled root in
+refuted_sound : (base : List NamedClause) (frame : CoreFrame) (state : CoreState) (conflict : Name) → IsSound base frame state → IsConflict (look_of state) state.trail conflict → level_now state.trail ≡ 0 →
+    IsRefuted base frame (refuted frame (lesson_of (look_of state) state.trail conflict) state)
+refuted_sound base frame state conflict sound is root =
+    let lesson = lesson_of (look_of state) state.trail conflict in
+    let lemma = lemma_of frame state lesson in
+    let empty : lesson.lits ≡ [] = root_lesson_empty (look_of state) state.trail conflict sound.holds.fitting.leveled root in
     record {
-      derived = derived_one_more base k.lemmas lemma sound.derives.derived
-          (derived_by_more (look_of k) (lits_at (base ++ lemma_clauses k.lemmas)) lemma sound.derives.carried (lesson_derived base f k conflict sound is));
-      named = named_one_more k.period f.core 0 k.lemmas lemma sound.derives.named (ap (λ place. lemma_name k.period f.core place) (let e : length k.lemmas ≡ 0 + length k.lemmas = omega arith in e));
-      lemmas_within = within_one_more f.variables k.lemmas lemma sound.derives.lemmas_within (subst (λ lits. All (IsWithin f.variables) lits) (sym empty) (All-nil (IsWithin f.variables)));
-      ends = record { earlier = k.lemmas; last = lemma; split = refl; empty = empty; none_before = sound.derives.none_empty };
+      derived = derived_one_more base state.lemmas lemma sound.derives.derived
+          (derived_by_more (look_of state) (lits_at (base ++ lemma_clauses state.lemmas)) lemma sound.derives.carried (lesson_derived base frame state conflict sound is));
+      named = named_one_more state.period frame.core 0 state.lemmas lemma sound.derives.named (ap (λ place. lemma_name state.period frame.core place) (let e : length state.lemmas ≡ 0 + length state.lemmas = omega arith in e));
+      lemmas_within = within_one_more frame.variables state.lemmas lemma sound.derives.lemmas_within (subst (λ lits. All (IsWithin frame.variables) lits) (sym empty) (All-nil (IsWithin frame.variables)));
+      ends = record { earlier = state.lemmas; last = lemma; split = refl; empty = empty; none_before = sound.derives.none_empty };
     }
 
 -- what a conflict leaves
-taught_kept : (base : List NamedClause) (f : CoreFrame) (k : CoreState) (conflict : Name) → IsSound base f k → IsConflict (look_of k) k.trail conflict →
-    IsTurnKept base f k (taught f k (lesson_of (look_of k) k.trail conflict))
-taught_kept base f k conflict sound is =
-    let lesson = lesson_of (look_of k) k.trail conflict in
-    cond_both (level_now k.trail == 0) (record { state = refuted f lesson k; came_to = Refuted }) (record { state = learnt f lesson k; came_to = Learnt }) (IsTurnKept base f k)
-    (λ root. record { sound = refuted_sound base f k conflict sound is (eqb-true (level_now k.trail) 0 root); formulas = λ cnf holds. holds })
+taught_kept : (base : List NamedClause) (frame : CoreFrame) (state : CoreState) (conflict : Name) → IsSound base frame state → IsConflict (look_of state) state.trail conflict →
+    IsTurnKept base frame state (taught frame state (lesson_of (look_of state) state.trail conflict))
+taught_kept base frame state conflict sound is =
+    let lesson = lesson_of (look_of state) state.trail conflict in
+    cond_both (level_now state.trail == 0) (record { state = refuted frame lesson state; came_to = Refuted }) (record { state = learnt frame lesson state; came_to = Learnt }) (IsTurnKept base frame state)
+    (λ root. record { sound = refuted_sound base frame state conflict sound is (eqb-true (level_now state.trail) 0 root); formulas = λ cnf holds. holds })
     (λ above. record {
-      sound = learnt_sound base f k lesson sound (conflict_asserting base f k conflict sound is (let high : level_now k.trail ≡ 0 → ⊥ = eqb-false (level_now k.trail) 0 above in omega (arith, high)))
-          (lesson_derived base f k conflict sound is);
-      formulas = λ cnf holds. learnt_holds cnf base f k lesson sound holds;
+      sound = learnt_sound base frame state lesson sound (conflict_asserting base frame state conflict sound is (let high : level_now state.trail ≡ 0 → ⊥ = eqb-false (level_now state.trail) 0 above in omega (arith, high)))
+          (lesson_derived base frame state conflict sound is);
+      formulas = λ cnf holds. learnt_holds cnf base frame state lesson sound holds;
     })
 
 -- the conflict that propagation answers is one on the trail that it leaves
-pub propagated_conflict : (base : List NamedClause) (f : CoreFrame) (k : CoreState) (conflict : Name) → IsSound base f k → (propagated f k).conflict ≡ Some conflict →
-    IsConflict (look_of k) (propagated f k).trail conflict
-propagated_conflict base f k conflict sound is =
-    subst (λ o. IsAnswer (look_of k) (propagated f k).trail o) is (propagation_fits (look_of k) f.variables (clauses_of k.clauses) k.trail sound.holds.found sound.holds.fitting).conflict
+pub propagated_conflict : (base : List NamedClause) (frame : CoreFrame) (state : CoreState) (conflict : Name) → IsSound base frame state → (propagated frame state).conflict ≡ Some conflict →
+    IsConflict (look_of state) (propagated frame state).trail conflict
+propagated_conflict base frame state conflict sound is =
+    subst (λ o. IsAnswer (look_of state) (propagated frame state).trail o) is (propagation_fits (look_of state) frame.variables (clauses_of state.clauses) state.trail sound.holds.found sound.holds.fitting).conflict
 
-turn_by_kept : (base : List NamedClause) (f : CoreFrame) (k : CoreState) → IsSound base f k → (o : Option Name) → (propagated f k).conflict ≡ o →
-    IsTurnKept base f k (turn_by f (after_propagation f k) o)
-turn_by_kept base f k sound None is = chosen_kept base f k sound is (first_free f.variables 1 (propagated f k).trail) refl
-turn_by_kept base f k sound (Some conflict) is =
-    let kept = taught_kept base f (after_propagation f k) conflict (propagated_sound base f k sound) (propagated_conflict base f k conflict sound is) in
+turn_by_kept : (base : List NamedClause) (frame : CoreFrame) (state : CoreState) → IsSound base frame state → (o : Option Name) → (propagated frame state).conflict ≡ o →
+    IsTurnKept base frame state (turn_by frame (after_propagation frame state) o)
+turn_by_kept base frame state sound None is = chosen_kept base frame state sound is (first_free frame.variables 1 (propagated frame state).trail) refl
+turn_by_kept base frame state sound (Some conflict) is =
+    let kept = taught_kept base frame (after_propagation frame state) conflict (propagated_sound base frame state sound) (propagated_conflict base frame state conflict sound is) in
     record { sound = kept.sound; formulas = kept.formulas }
 
 -- a conflict of propagation above level 0 has two literals of the current level, and its lesson is asserting
-pub sound_conflict_two : (base : List NamedClause) (f : CoreFrame) (k : CoreState) (conflict : Name) (lits : List Literal) → IsSound base f k →
-    (propagated f k).conflict ≡ Some conflict → look_of k conflict ≡ Some lits → 0 < level_now (propagated f k).trail →
-    HasTwoOfLevel (propagated f k).trail (level_now (propagated f k).trail) lits
-sound_conflict_two base f k conflict lits sound is found above =
-    conflict_two base f (after_propagation f k) conflict lits (propagated_sound base f k sound) (propagated_conflict base f k conflict sound is) found above
+pub sound_conflict_two : (base : List NamedClause) (frame : CoreFrame) (state : CoreState) (conflict : Name) (lits : List Literal) → IsSound base frame state →
+    (propagated frame state).conflict ≡ Some conflict → look_of state conflict ≡ Some lits → 0 < level_now (propagated frame state).trail →
+    HasTwoOfLevel (propagated frame state).trail (level_now (propagated frame state).trail) lits
+sound_conflict_two base frame state conflict lits sound is found above =
+    conflict_two base frame (after_propagation frame state) conflict lits (propagated_sound base frame state sound) (propagated_conflict base frame state conflict sound is) found above
 
-pub sound_conflict_asserting : (base : List NamedClause) (f : CoreFrame) (k : CoreState) (conflict : Name) → IsSound base f k →
-    (propagated f k).conflict ≡ Some conflict → 0 < level_now (propagated f k).trail →
-    IsAsserting (propagated f k).trail (lesson_of (look_of k) (propagated f k).trail conflict)
-sound_conflict_asserting base f k conflict sound is above =
-    conflict_asserting base f (after_propagation f k) conflict (propagated_sound base f k sound) (propagated_conflict base f k conflict sound is) above
+pub sound_conflict_asserting : (base : List NamedClause) (frame : CoreFrame) (state : CoreState) (conflict : Name) → IsSound base frame state →
+    (propagated frame state).conflict ≡ Some conflict → 0 < level_now (propagated frame state).trail →
+    IsAsserting (propagated frame state).trail (lesson_of (look_of state) (propagated frame state).trail conflict)
+sound_conflict_asserting base frame state conflict sound is above =
+    conflict_asserting base frame (after_propagation frame state) conflict (propagated_sound base frame state sound) (propagated_conflict base frame state conflict sound is) above
 
 -- what a turn keeps and leaves
-pub turn_kept : (base : List NamedClause) (f : CoreFrame) (k : CoreState) → IsSound base f k → IsTurnKept base f k (turn f k)
-turn_kept base f k sound = turn_by_kept base f k sound (propagated f k).conflict refl
+pub turn_kept : (base : List NamedClause) (frame : CoreFrame) (state : CoreState) → IsSound base frame state → IsTurnKept base frame state (turn frame state)
+turn_kept base frame state sound = turn_by_kept base frame state sound (propagated frame state).conflict refl
 
 -- a turn that doesn't refute keeps what is sound
-pub turn_sound : (base : List NamedClause) (f : CoreFrame) (k : CoreState) → IsSound base f k → ((turn f k).came_to ≡ Refuted → ⊥) → IsSound base f (turn f k).state
-turn_sound base f k sound other = by_end (turn f k).state (turn f k).came_to (turn_kept base f k sound).sound other
+pub turn_sound : (base : List NamedClause) (frame : CoreFrame) (state : CoreState) → IsSound base frame state → ((turn frame state).came_to ≡ Refuted → ⊥) → IsSound base frame (turn frame state).state
+turn_sound base frame state sound other = by_end (turn frame state).state (turn frame state).came_to (turn_kept base frame state sound).sound other
   where
-    by_end : (j : CoreState) (e : TurnEnd) → IsTurnSound base f j e → (e ≡ Refuted → ⊥) → IsSound base f j
+    by_end : (j : CoreState) (e : TurnEnd) → IsTurnSound base frame j e → (e ≡ Refuted → ⊥) → IsSound base frame j
     by_end j Decided is differs = is
     by_end j Learnt is differs = is
     by_end j Modelled is differs = is.0
     by_end j Refuted is differs = absurd (differs refl)
 
-pub turn_holds : (cnf : Cnf) (base : List NamedClause) (f : CoreFrame) (k : CoreState) → IsSound base f k → HoldsFormula cnf k → HoldsFormula cnf (turn f k).state
-turn_holds cnf base f k sound holds = (turn_kept base f k sound).formulas cnf holds
+pub turn_holds : (cnf : Cnf) (base : List NamedClause) (frame : CoreFrame) (state : CoreState) → IsSound base frame state → HoldsFormula cnf state → HoldsFormula cnf (turn frame state).state
+turn_holds cnf base frame state sound holds = (turn_kept base frame state sound).formulas cnf holds
 
-after_turn_kept : (base : List NamedClause) (f : CoreFrame) (before : CoreState) (more : CoreState → Turned) (k : CoreState) (e : TurnEnd) →
-    IsTurnSound base f k e → KeepsFormulas before k → ((j : CoreState) → IsSound base f j → IsTurnKept base f j (more j)) → IsTurnKept base f before (after_turn more k e)
-after_turn_kept base f before more k Decided sound formulas rest =
-    let later = rest k sound in record { sound = later.sound; formulas = λ cnf holds. later.formulas cnf (formulas cnf holds) }
-after_turn_kept base f before more k Learnt sound formulas rest = record { sound = sound; formulas = formulas }
-after_turn_kept base f before more k Modelled sound formulas rest = record { sound = sound; formulas = formulas }
-after_turn_kept base f before more k Refuted sound formulas rest = record { sound = sound; formulas = formulas }
+after_turn_kept : (base : List NamedClause) (frame : CoreFrame) (before : CoreState) (more : CoreState → Turned) (state : CoreState) (e : TurnEnd) →
+    IsTurnSound base frame state e → KeepsFormulas before state → ((j : CoreState) → IsSound base frame j → IsTurnKept base frame j (more j)) → IsTurnKept base frame before (after_turn more state e)
+after_turn_kept base frame before more state Decided sound formulas rest =
+    let later = rest state sound in record { sound = later.sound; formulas = λ cnf holds. later.formulas cnf (formulas cnf holds) }
+after_turn_kept base frame before more state Learnt sound formulas rest = record { sound = sound; formulas = formulas }
+after_turn_kept base frame before more state Modelled sound formulas rest = record { sound = sound; formulas = formulas }
+after_turn_kept base frame before more state Refuted sound formulas rest = record { sound = sound; formulas = formulas }
 
 -- what a search keeps and leaves
-pub search_kept : (most : ℕ) (base : List NamedClause) (f : CoreFrame) (k : CoreState) → IsSound base f k → IsTurnKept base f k (search most f k)
-search_kept zero base f k sound = record { sound = sound; formulas = λ cnf holds. holds }
-search_kept (suc most) base f k sound =
-    let one = turn_kept base f k sound in
-    after_turn_kept base f k (search most f) (turn f k).state (turn f k).came_to one.sound one.formulas (λ j is. search_kept most base f j is)
+pub search_to_conflict_kept : (most : ℕ) (base : List NamedClause) (frame : CoreFrame) (state : CoreState) → IsSound base frame state → IsTurnKept base frame state (search_to_conflict most frame state)
+search_to_conflict_kept zero base frame state sound = record { sound = sound; formulas = λ cnf holds. holds }
+search_to_conflict_kept (suc most) base frame state sound =
+    let one = turn_kept base frame state sound in
+    after_turn_kept base frame state (search_to_conflict most frame) (turn frame state).state (turn frame state).came_to one.sound one.formulas (λ j is. search_to_conflict_kept most base frame j is)
 
 -- what a stretch leaves, by its end
 abbrev pub IsEndSound : List NamedClause → CoreFrame → CoreState → End → Type 0
-IsEndSound base f k Quota = IsSound base f k
-IsEndSound base f k Spent = IsSound base f k
-IsEndSound base f k Sat = IsSound base f k × IsModelFound f k
-IsEndSound base f k Unsat = IsRefuted base f k
+IsEndSound base frame state Quota = IsSound base frame state
+IsEndSound base frame state Spent = IsSound base frame state
+IsEndSound base frame state Sat = IsSound base frame state × IsModelFound frame state
+IsEndSound base frame state Unsat = IsRefuted base frame state
 
 -- what a stretch keeps and leaves
-pub record IsStretchKept (base : List NamedClause) (f : CoreFrame) (before : CoreState) (s : Stretched) : Type 0 where
-  pub sound : IsEndSound base f s.state s.ended
+pub record IsStretchKept (base : List NamedClause) (frame : CoreFrame) (before : CoreState) (s : Stretched) : Type 0 where
+  pub sound : IsEndSound base frame s.state s.ended
   pub formulas : KeepsFormulas before s.state
 
 -- a stretch that ends at level 0 with what is sound
-at_root_kept : (base : List NamedClause) (f : CoreFrame) (before k : CoreState) (more : CoreState → Stretched) → IsSound base f k → KeepsFormulas before k →
-    ((j : CoreState) → IsSound base f j → IsStretchKept base f j (more j)) → (b : Bool) → IsStretchKept base f before (cond b (ended_at_root Spent k) (more k))
-at_root_kept base f before k more sound formulas rest true = record { sound = jumped_sound base f k 0 sound; formulas = formulas }
-at_root_kept base f before k more sound formulas rest false =
-    let later = rest k sound in record { sound = later.sound; formulas = λ cnf holds. later.formulas cnf (formulas cnf holds) }
+at_root_kept : (base : List NamedClause) (frame : CoreFrame) (before state : CoreState) (more : CoreState → Stretched) → IsSound base frame state → KeepsFormulas before state →
+    ((j : CoreState) → IsSound base frame j → IsStretchKept base frame j (more j)) → (b : Bool) → IsStretchKept base frame before (cond b (ended_at_root Spent state) (more state))
+at_root_kept base frame before state more sound formulas rest true = record { sound = jumped_sound base frame state 0 sound; formulas = formulas }
+at_root_kept base frame before state more sound formulas rest false =
+    let later = rest state sound in record { sound = later.sound; formulas = λ cnf holds. later.formulas cnf (formulas cnf holds) }
 
-after_search_kept : (base : List NamedClause) (f : CoreFrame) (before : CoreState) (more : CoreState → Stretched) (k : CoreState) (e : TurnEnd) →
-    IsTurnSound base f k e → KeepsFormulas before k → ((j : CoreState) → IsSound base f j → IsStretchKept base f j (more j)) → IsStretchKept base f before (after_search f more k e)
-after_search_kept base f before more k Modelled sound formulas rest = record { sound = sound; formulas = formulas }
-after_search_kept base f before more k Refuted sound formulas rest = record { sound = sound; formulas = formulas }
-after_search_kept base f before more k Learnt sound formulas rest = at_root_kept base f before k more sound formulas rest (k.conflicts == f.limit)
-after_search_kept base f before more k Decided sound formulas rest = record { sound = jumped_sound base f k 0 sound; formulas = formulas }
+after_search_kept : (base : List NamedClause) (frame : CoreFrame) (before : CoreState) (more : CoreState → Stretched) (state : CoreState) (e : TurnEnd) →
+    IsTurnSound base frame state e → KeepsFormulas before state → ((j : CoreState) → IsSound base frame j → IsStretchKept base frame j (more j)) → IsStretchKept base frame before (after_search frame more state e)
+after_search_kept base frame before more state Modelled sound formulas rest = record { sound = sound; formulas = formulas }
+after_search_kept base frame before more state Refuted sound formulas rest = record { sound = sound; formulas = formulas }
+after_search_kept base frame before more state Learnt sound formulas rest = at_root_kept base frame before state more sound formulas rest (state.conflicts == frame.limit)
+after_search_kept base frame before more state Decided sound formulas rest = record { sound = jumped_sound base frame state 0 sound; formulas = formulas }
 
-searches_kept : (quota : ℕ) (base : List NamedClause) (f : CoreFrame) (k : CoreState) → IsSound base f k → IsStretchKept base f k (searches quota f k)
-searches_kept zero base f k sound = record { sound = jumped_sound base f k 0 sound; formulas = λ cnf holds. holds }
-searches_kept (suc quota) base f k sound =
-    let one = search_kept (f.variables + 1) base f k sound in
-    let t = search (f.variables + 1) f k in
-    after_search_kept base f k (searches quota f) t.state t.came_to one.sound one.formulas (λ j is. searches_kept quota base f j is)
+search_to_quota_kept : (quota : ℕ) (base : List NamedClause) (frame : CoreFrame) (state : CoreState) → IsSound base frame state → IsStretchKept base frame state (search_to_quota quota frame state)
+search_to_quota_kept zero base frame state sound = record { sound = jumped_sound base frame state 0 sound; formulas = λ cnf holds. holds }
+search_to_quota_kept (suc quota) base frame state sound =
+    let one = search_to_conflict_kept (frame.variables + 1) base frame state sound in
+    let t = search_to_conflict (frame.variables + 1) frame state in
+    after_search_kept base frame state (search_to_quota quota frame) t.state t.came_to one.sound one.formulas (λ j is. search_to_quota_kept quota base frame j is)
 
 -- what a stretch keeps and leaves
-pub stretch_kept : (base : List NamedClause) (f : CoreFrame) (quota : ℕ) (k : CoreState) → IsSound base f k → IsStretchKept base f k (stretch f quota k)
-stretch_kept base f quota k sound =
-    cond_both (k.conflicts == f.limit) (record { state = k; ended = Spent }) (searches quota f k) (IsStretchKept base f k)
+pub stretch_kept : (base : List NamedClause) (frame : CoreFrame) (quota : ℕ) (state : CoreState) → IsSound base frame state → IsStretchKept base frame state (stretch frame quota state)
+stretch_kept base frame quota state sound =
+    cond_both (state.conflicts == frame.limit) (record { state = state; ended = Spent }) (search_to_quota quota frame state) (IsStretchKept base frame state)
     (λ spent. record { sound = sound; formulas = λ cnf holds. holds })
-    (λ left. searches_kept quota base f k sound)
+    (λ left. search_to_quota_kept quota base frame state sound)

@@ -20,76 +20,76 @@ use Rattle.solo_core.specs.Soundness.{AreDerived, AreNamed, AreLemmasWithin, IsS
 use Rattle.solo_core.specs.declared.sheet.End.{End}
 use Rattle.solo_core.specs.declared.sheet.End.TheVariants.{Quota, Sat, Unsat, Spent}
 
-derived_at : (base : List NamedClause) (f : CoreFrame) (k : CoreState) (e : End) → IsEndSound base f k e → AreDerived base k.lemmas
-derived_at base f k Quota is = is.derives.derived
-derived_at base f k Spent is = is.derives.derived
-derived_at base f k Sat is = is.0.derives.derived
-derived_at base f k Unsat is = is.derived
+derived_at : (base : List NamedClause) (frame : CoreFrame) (state : CoreState) (e : End) → IsEndSound base frame state e → AreDerived base state.lemmas
+derived_at base frame state Quota is = is.derives.derived
+derived_at base frame state Spent is = is.derives.derived
+derived_at base frame state Sat is = is.0.derives.derived
+derived_at base frame state Unsat is = is.derived
 
-named_at : (base : List NamedClause) (f : CoreFrame) (k : CoreState) (e : End) → IsEndSound base f k e → AreNamed k.period f.core 0 k.lemmas
-named_at base f k Quota is = is.derives.named
-named_at base f k Spent is = is.derives.named
-named_at base f k Sat is = is.0.derives.named
-named_at base f k Unsat is = is.named
+named_at : (base : List NamedClause) (frame : CoreFrame) (state : CoreState) (e : End) → IsEndSound base frame state e → AreNamed state.period frame.core 0 state.lemmas
+named_at base frame state Quota is = is.derives.named
+named_at base frame state Spent is = is.derives.named
+named_at base frame state Sat is = is.0.derives.named
+named_at base frame state Unsat is = is.named
 
-within_at : (base : List NamedClause) (f : CoreFrame) (k : CoreState) (e : End) → IsEndSound base f k e → AreLemmasWithin f.variables k.lemmas
-within_at base f k Quota is = is.derives.lemmas_within
-within_at base f k Spent is = is.derives.lemmas_within
-within_at base f k Sat is = is.0.derives.lemmas_within
-within_at base f k Unsat is = is.lemmas_within
+within_at : (base : List NamedClause) (frame : CoreFrame) (state : CoreState) (e : End) → IsEndSound base frame state e → AreLemmasWithin frame.variables state.lemmas
+within_at base frame state Quota is = is.derives.lemmas_within
+within_at base frame state Spent is = is.derives.lemmas_within
+within_at base frame state Sat is = is.0.derives.lemmas_within
+within_at base frame state Unsat is = is.lemmas_within
 
-empty_at : (base : List NamedClause) (f : CoreFrame) (k : CoreState) (e : End) → IsEndSound base f k e → e ≡ Unsat → EndsEmpty k.lemmas
-empty_at base f k Quota is same = cc
-empty_at base f k Spent is same = cc
-empty_at base f k Sat is same = cc
-empty_at base f k Unsat is same = is.ends
+empty_at : (base : List NamedClause) (frame : CoreFrame) (state : CoreState) (e : End) → IsEndSound base frame state e → e ≡ Unsat → EndsEmpty state.lemmas
+empty_at base frame state Quota is same = cc
+empty_at base frame state Spent is same = cc
+empty_at base frame state Sat is same = cc
+empty_at base frame state Unsat is same = is.ends
 
-sound_at : (base : List NamedClause) (f : CoreFrame) (k : CoreState) (e : End) → IsEndSound base f k e → (e ≡ Unsat → ⊥) → IsSound base f k
-sound_at base f k Quota is other = is
-sound_at base f k Spent is other = is
-sound_at base f k Sat is other = is.0
-sound_at base f k Unsat is other = absurd (other refl)
+sound_at : (base : List NamedClause) (frame : CoreFrame) (state : CoreState) (e : End) → IsEndSound base frame state e → (e ≡ Unsat → ⊥) → IsSound base frame state
+sound_at base frame state Quota is other = is
+sound_at base frame state Spent is other = is
+sound_at base frame state Sat is other = is.0
+sound_at base frame state Unsat is other = absurd (other refl)
 
-model_at_end : (base : List NamedClause) (f : CoreFrame) (k : CoreState) (e : End) → IsEndSound base f k e → e ≡ Sat → IsModelFound f k
-model_at_end base f k Quota is same = cc
-model_at_end base f k Spent is same = cc
-model_at_end base f k Sat is same = is.1
-model_at_end base f k Unsat is same = cc
+model_at_end : (base : List NamedClause) (frame : CoreFrame) (state : CoreState) (e : End) → IsEndSound base frame state e → e ≡ Sat → IsModelFound frame state
+model_at_end base frame state Quota is same = cc
+model_at_end base frame state Spent is same = cc
+model_at_end base frame state Sat is same = is.1
+model_at_end base frame state Unsat is same = cc
 
 -- the lemmas of a stretch are derived
-pub stretch_derived : (base : List NamedClause) (f : CoreFrame) (quota : ℕ) (k : CoreState) → IsSound base f k → AreDerived base (stretch f quota k).state.lemmas
-stretch_derived base f quota k sound =
-    let s = stretch f quota k in derived_at base f s.state s.ended (stretch_kept base f quota k sound).sound
+pub stretch_derived : (base : List NamedClause) (frame : CoreFrame) (quota : ℕ) (state : CoreState) → IsSound base frame state → AreDerived base (stretch frame quota state).state.lemmas
+stretch_derived base frame quota state sound =
+    let s = stretch frame quota state in derived_at base frame s.state s.ended (stretch_kept base frame quota state sound).sound
 
 -- they have the names of the period
-pub stretch_named : (base : List NamedClause) (f : CoreFrame) (quota : ℕ) (k : CoreState) → IsSound base f k → AreNamed k.period f.core 0 (stretch f quota k).state.lemmas
-stretch_named base f quota k sound =
-    let s = stretch f quota k in
-    subst (λ period. AreNamed period f.core 0 s.state.lemmas) (conflicts_counted f quota k).period (named_at base f s.state s.ended (stretch_kept base f quota k sound).sound)
+pub stretch_named : (base : List NamedClause) (frame : CoreFrame) (quota : ℕ) (state : CoreState) → IsSound base frame state → AreNamed state.period frame.core 0 (stretch frame quota state).state.lemmas
+stretch_named base frame quota state sound =
+    let s = stretch frame quota state in
+    subst (λ period. AreNamed period frame.core 0 s.state.lemmas) (conflicts_counted frame quota state).period (named_at base frame s.state s.ended (stretch_kept base frame quota state sound).sound)
 
 -- their literals are within the variables
-pub stretch_within : (base : List NamedClause) (f : CoreFrame) (quota : ℕ) (k : CoreState) → IsSound base f k → AreLemmasWithin f.variables (stretch f quota k).state.lemmas
-stretch_within base f quota k sound =
-    let s = stretch f quota k in within_at base f s.state s.ended (stretch_kept base f quota k sound).sound
+pub stretch_within : (base : List NamedClause) (frame : CoreFrame) (quota : ℕ) (state : CoreState) → IsSound base frame state → AreLemmasWithin frame.variables (stretch frame quota state).state.lemmas
+stretch_within base frame quota state sound =
+    let s = stretch frame quota state in within_at base frame s.state s.ended (stretch_kept base frame quota state sound).sound
 
 -- at Unsat the last lemma, and no earlier one, is empty
-pub stretch_empty : (base : List NamedClause) (f : CoreFrame) (quota : ℕ) (k : CoreState) → IsSound base f k → (stretch f quota k).ended ≡ Unsat → EndsEmpty (stretch f quota k).state.lemmas
-stretch_empty base f quota k sound is =
-    let s = stretch f quota k in empty_at base f s.state s.ended (stretch_kept base f quota k sound).sound is
+pub stretch_empty : (base : List NamedClause) (frame : CoreFrame) (quota : ℕ) (state : CoreState) → IsSound base frame state → (stretch frame quota state).ended ≡ Unsat → EndsEmpty (stretch frame quota state).state.lemmas
+stretch_empty base frame quota state sound is =
+    let s = stretch frame quota state in empty_at base frame s.state s.ended (stretch_kept base frame quota state sound).sound is
 
 -- at each other end what is sound is kept
-pub stretch_sound : (base : List NamedClause) (f : CoreFrame) (quota : ℕ) (k : CoreState) → IsSound base f k → ((stretch f quota k).ended ≡ Unsat → ⊥) → IsSound base f (stretch f quota k).state
-stretch_sound base f quota k sound other =
-    let s = stretch f quota k in sound_at base f s.state s.ended (stretch_kept base f quota k sound).sound other
+pub stretch_sound : (base : List NamedClause) (frame : CoreFrame) (quota : ℕ) (state : CoreState) → IsSound base frame state → ((stretch frame quota state).ended ≡ Unsat → ⊥) → IsSound base frame (stretch frame quota state).state
+stretch_sound base frame quota state sound other =
+    let s = stretch frame quota state in sound_at base frame s.state s.ended (stretch_kept base frame quota state sound).sound other
 
 -- at Sat the trail is a model of the held clauses
-pub stretch_model : (base : List NamedClause) (f : CoreFrame) (quota : ℕ) (k : CoreState) → IsSound base f k → (stretch f quota k).ended ≡ Sat → IsModelFound f (stretch f quota k).state
-stretch_model base f quota k sound is =
-    let s = stretch f quota k in model_at_end base f s.state s.ended (stretch_kept base f quota k sound).sound is
+pub stretch_model : (base : List NamedClause) (frame : CoreFrame) (quota : ℕ) (state : CoreState) → IsSound base frame state → (stretch frame quota state).ended ≡ Sat → IsModelFound frame (stretch frame quota state).state
+stretch_model base frame quota state sound is =
+    let s = stretch frame quota state in model_at_end base frame s.state s.ended (stretch_kept base frame quota state sound).sound is
 
 -- a formula that is held stays held
-pub stretch_holds : (cnf : Cnf) (base : List NamedClause) (f : CoreFrame) (quota : ℕ) (k : CoreState) → IsSound base f k → HoldsFormula cnf k → HoldsFormula cnf (stretch f quota k).state
-stretch_holds cnf base f quota k sound holds = (stretch_kept base f quota k sound).formulas cnf holds
+pub stretch_holds : (cnf : Cnf) (base : List NamedClause) (frame : CoreFrame) (quota : ℕ) (state : CoreState) → IsSound base frame state → HoldsFormula cnf state → HoldsFormula cnf (stretch frame quota state).state
+stretch_holds cnf base frame quota state sound holds = (stretch_kept base frame quota state sound).formulas cnf holds
 
 -- clauses that are found among true ones are true
 found_true : (model : List Bool) (held : List NamedClause) (index : ℕ) (clauses : List (List Literal)) → AllByRecursion (λ c. IsTrue (is_clause_true model c.lits)) held →
@@ -101,8 +101,8 @@ found_true model held index (lits ∷ others) all found =
     (found_true model held (index + 1) others all found.1)
 
 -- the model satisfies a formula that is held
-pub stretch_satisfies : (cnf : Cnf) (base : List NamedClause) (f : CoreFrame) (quota : ℕ) (k : CoreState) → IsSound base f k → HoldsFormula cnf k → (stretch f quota k).ended ≡ Sat →
-    Satisfies (model_of f.variables (stretch f quota k).state.trail) cnf
-stretch_satisfies cnf base f quota k sound holds is =
-    let s = stretch f quota k in
-    found_true (model_of f.variables s.state.trail) (clauses_of s.state.clauses) 0 cnf.clauses (stretch_model base f quota k sound is).satisfied (stretch_holds cnf base f quota k sound holds)
+pub stretch_satisfies : (cnf : Cnf) (base : List NamedClause) (frame : CoreFrame) (quota : ℕ) (state : CoreState) → IsSound base frame state → HoldsFormula cnf state → (stretch frame quota state).ended ≡ Sat →
+    Satisfies (model_of frame.variables (stretch frame quota state).state.trail) cnf
+stretch_satisfies cnf base frame quota state sound holds is =
+    let s = stretch frame quota state in
+    found_true (model_of frame.variables s.state.trail) (clauses_of s.state.clauses) 0 cnf.clauses (stretch_model base frame quota state sound is).satisfied (stretch_holds cnf base frame quota state sound holds)

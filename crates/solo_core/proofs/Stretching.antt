@@ -5,31 +5,30 @@ use Rattle.std.proofs.lemmas.Bool.{cond-false, ne_eqb}
 use Rattle.lit_base.specs.Rounds.{NamedClause}
 use Rattle.lit_base.specs.Held.{clauses_of}
 use Rattle.lit_base.specs.Quiet.{AreQuietBelow}
-use Rattle.solo_core.specs.State.{CoreFrame, CoreState}
+use Rattle.solo_core.specs.State.{CoreFrame, CoreState, SearchState}
 use Rattle.solo_core.specs.Turn.{Turned}
 use Rattle.solo_core.specs.declared.turn.TurnEnd.{TurnEnd}
 use Rattle.solo_core.specs.declared.turn.TurnEnd.TheVariants.{Decided, Learnt, Refuted, Modelled}
-use Rattle.solo_core.specs.Stretch.{Stretched, search, ended_at_root, after_search, searches}
+use Rattle.solo_core.specs.Stretch.{Stretched, search_to_conflict, ended_at_root, after_search, search_to_quota}
 use Rattle.solo_core.specs.declared.sheet.End.{End}
 use Rattle.solo_core.specs.declared.sheet.End.TheVariants.{Spent}
 use Rattle.solo_core.specs.Soundness.{IsSound}
-use Rattle.solo_core.specs.SearchState.{SearchState, IsJoined, IsReady}
-use Rattle.solo_core.specs.SearchSteps.{search_at, FollowsSearch}
-use Rattle.solo_core.proofs.SoundStretch.{IsTurnSound, search_kept}
+use Rattle.solo_core.specs.Searching.{IsJoined, IsReady, search_at, FollowsSearch}
+use Rattle.solo_core.proofs.SoundStretch.{IsTurnSound, search_to_conflict_kept}
 
-sound_unless : (base : List NamedClause) (f : CoreFrame) (k : CoreState) (e : TurnEnd) → IsTurnSound base f k e → (e ≡ Refuted → ⊥) → IsSound base f k
-sound_unless base f k Decided is other = is
-sound_unless base f k Learnt is other = is
-sound_unless base f k Modelled is other = is.0
-sound_unless base f k Refuted is other = absurd (other refl)
+sound_unless : (base : List NamedClause) (frame : CoreFrame) (state : CoreState) (e : TurnEnd) → IsTurnSound base frame state e → (e ≡ Refuted → ⊥) → IsSound base frame state
+sound_unless base frame state Decided is other = is
+sound_unless base frame state Learnt is other = is
+sound_unless base frame state Modelled is other = is.0
+sound_unless base frame state Refuted is other = absurd (other refl)
 
 -- a whole search of a state
 abbrev pub searched : CoreFrame → CoreState → Turned
-searched f k = search (f.variables + 1) f k
+searched frame state = search_to_conflict (frame.variables + 1) frame state
 
 -- a search that doesn't refute keeps what is sound
-searched_sound : (base : List NamedClause) (f : CoreFrame) (k : CoreState) → IsSound base f k → ((searched f k).came_to ≡ Refuted → ⊥) → IsSound base f (searched f k).state
-searched_sound base f k sound other = let t = searched f k in sound_unless base f t.state t.came_to (search_kept (f.variables + 1) base f k sound).sound other
+searched_sound : (base : List NamedClause) (frame : CoreFrame) (state : CoreState) → IsSound base frame state → ((searched frame state).came_to ≡ Refuted → ⊥) → IsSound base frame (searched frame state).state
+searched_sound base frame state sound other = let t = searched frame state in sound_unless base frame t.state t.came_to (search_to_conflict_kept (frame.variables + 1) base frame state sound).sound other
 
 -- so at no lower level a clause was left unit or falsified
 pub searched_quiet : (s after : SearchState) (e : TurnEnd) → IsReady s → after ≡ search_at s.frame (searched s.frame s.state).state → e ≡ (searched s.frame s.state).came_to →
@@ -39,10 +38,10 @@ searched_quiet s after e ready is end other =
     (searched_sound ready.base s.frame s.state ready.sound (λ refutes. other (end ∙ refutes))).holds.quiet
 
 -- what the searches so far leave: the search is ready, and the searches to come end where the whole stretch ends
-pub record IsStretching (f : CoreFrame) (whole : Stretched) (left : ℕ) (s : SearchState) : Type 0 where
+pub record IsStretching (frame : CoreFrame) (whole : Stretched) (left : ℕ) (s : SearchState) : Type 0 where
   pub ready : IsReady s
-  pub frame_is : s.frame ≡ f
-  pub rest : searches left s.frame s.state ≡ whole
+  pub frame_is : s.frame ≡ frame
+  pub rest : search_to_quota left s.frame s.state ≡ whole
 
 -- what follows the next search
 follows_next : (s found after : SearchState) (e : TurnEnd) (o : Option End) → found ≡ search_at s.frame (searched s.frame s.state).state → e ≡ (searched s.frame s.state).came_to →
@@ -52,30 +51,30 @@ follows_next s found after e o found_is end follows =
     subst (λ (d : TurnEnd). FollowsSearch s.frame t.state d after o) end (subst (λ (x : SearchState). FollowsSearch x.frame x.state e after o) found_is follows)
 
 -- where a stretch ended
-pub record HasStretched (f : CoreFrame) (whole : Stretched) (after : SearchState) (ended : End) : Type 0 where
-  pub state : after ≡ search_at f whole.state
+pub record HasStretched (frame : CoreFrame) (whole : Stretched) (after : SearchState) (ended : End) : Type 0 where
+  pub state : after ≡ search_at frame whole.state
   pub end : ended ≡ whole.ended
 
 -- the next search ends the stretch
-pub stretch_leaves : (f : CoreFrame) (whole : Stretched) (left less : ℕ) (s found after : SearchState) (e : TurnEnd) (ended : End) → left ≡ suc less → IsStretching f whole left s →
-    found ≡ search_at s.frame (searched s.frame s.state).state → e ≡ (searched s.frame s.state).came_to → FollowsSearch found.frame found.state e after (Some ended) → HasStretched f whole after ended
-stretch_leaves f whole left less s found after e ended is stretching found_is end follows =
+pub stretch_leaves : (frame : CoreFrame) (whole : Stretched) (left less : ℕ) (s found after : SearchState) (e : TurnEnd) (ended : End) → left ≡ suc less → IsStretching frame whole left s →
+    found ≡ search_at s.frame (searched s.frame s.state).state → e ≡ (searched s.frame s.state).came_to → FollowsSearch found.frame found.state e after (Some ended) → HasStretched frame whole after ended
+stretch_leaves frame whole left less s found after e ended is stretching found_is end follows =
     let next = follows_next s found after e (Some ended) found_is end follows in
-    let whole_is : record { state = after.state; ended = ended } ≡ whole = sym (next.1 (searches less s.frame)) ∙ (ap (λ n. searches n s.frame s.state) (sym is) ∙ stretching.rest) in
+    let whole_is : record { state = after.state; ended = ended } ≡ whole = sym (next.1 (search_to_quota less s.frame)) ∙ (ap (λ n. search_to_quota n s.frame s.state) (sym is) ∙ stretching.rest) in
     record {
-      state = next.0 ∙ (ap (λ g. search_at g after.state) stretching.frame_is ∙ ap (λ (w : Stretched). search_at f w.state) whole_is);
+      state = next.0 ∙ (ap (λ g. search_at g after.state) stretching.frame_is ∙ ap (λ (w : Stretched). search_at frame w.state) whole_is);
       end = ap (λ (w : Stretched). w.ended) whole_is;
     }
 
-learnt_more : (f : CoreFrame) (more : CoreState → Stretched) (k : CoreState) (e : TurnEnd) → e ≡ Learnt → (k.conflicts ≡ f.limit → ⊥) → after_search f more k e ≡ more k
-learnt_more f more k e is left =
-    ap (λ d. after_search f more k d) is ∙ cond-false (k.conflicts == f.limit) (ended_at_root Spent k) (more k) (ne_eqb k.conflicts f.limit left)
+learnt_more : (frame : CoreFrame) (more : CoreState → Stretched) (state : CoreState) (e : TurnEnd) → e ≡ Learnt → (state.conflicts ≡ frame.limit → ⊥) → after_search frame more state e ≡ more state
+learnt_more frame more state e is left =
+    ap (λ d. after_search frame more state d) is ∙ cond-false (state.conflicts == frame.limit) (ended_at_root Spent state) (more state) (ne_eqb state.conflicts frame.limit left)
 
 -- or is followed by the others
-pub stretch_goes_on : (f : CoreFrame) (whole : Stretched) (left less : ℕ) (s found after : SearchState) (e : TurnEnd) → left ≡ suc less → IsStretching f whole left s →
+pub stretch_goes_on : (frame : CoreFrame) (whole : Stretched) (left less : ℕ) (s found after : SearchState) (e : TurnEnd) → left ≡ suc less → IsStretching frame whole left s →
     found ≡ search_at s.frame (searched s.frame s.state).state → e ≡ (searched s.frame s.state).came_to → FollowsSearch found.frame found.state e after None → IsJoined after →
-    IsStretching f whole less after
-stretch_goes_on f whole left less s found after e is stretching found_is end follows joined =
+    IsStretching frame whole less after
+stretch_goes_on frame whole left less s found after e is stretching found_is end follows joined =
     let next = follows_next s found after e None found_is end follows in
     let t = searched s.frame s.state in
     let there : IsJoined (search_at s.frame t.state) = subst IsJoined next.0 joined in
@@ -88,6 +87,6 @@ stretch_goes_on f whole left less s found after e is stretching found_is end fol
     record {
       ready = subst IsReady (sym next.0) ready;
       frame_is = ap (λ (x : SearchState). x.frame) next.0 ∙ stretching.frame_is;
-      rest = subst (λ (x : SearchState). searches less x.frame x.state ≡ whole) (sym next.0)
-          (sym (learnt_more s.frame (searches less s.frame) t.state t.came_to next.1 next.2) ∙ (ap (λ n. searches n s.frame s.state) (sym is) ∙ stretching.rest));
+      rest = subst (λ (x : SearchState). search_to_quota less x.frame x.state ≡ whole) (sym next.0)
+          (sym (learnt_more s.frame (search_to_quota less s.frame) t.state t.came_to next.1 next.2) ∙ (ap (λ n. search_to_quota n s.frame s.state) (sym is) ∙ stretching.rest));
     }

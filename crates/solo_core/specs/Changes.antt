@@ -10,19 +10,19 @@ use Rattle.solo_core.specs.Turn.{propagated}
 
 -- the state after propagation
 abbrev pub after_propagation : CoreFrame → CoreState → CoreState
-after_propagation f k = record k { trail = (propagated f k).trail }
+after_propagation frame state = record state { trail = (propagated frame state).trail }
 
 -- the state with these clauses in place of those that it holds
 abbrev pub with_clauses : List HeldClause → CoreState → CoreState
-with_clauses held k = record k { clauses = held }
+with_clauses held state = record state { clauses = held }
 
 -- the state with a clause more, which has no uses
 abbrev pub with_added : NamedClause → CoreState → CoreState
-with_added c k = with_clauses (with_clause (unused c) k.clauses) k
+with_added c state = with_clauses (with_clause (unused c) state.clauses) state
 
 -- the state without the clauses of these names
 abbrev pub with_dropped : List Name → CoreState → CoreState
-with_dropped names k = with_clauses (without_names names k.clauses) k
+with_dropped names state = with_clauses (without_names names state.clauses) state
 
 -- a reason that is none of these names
 abbrev pub IsOther : List Name → Option Name → Type 0

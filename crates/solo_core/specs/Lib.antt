@@ -1,13 +1,12 @@
 pub mod State
+pub mod First
 pub mod Turn
 pub mod Stretch
 pub mod Sheet
 pub mod Soundness
 pub mod Changes
 pub mod Period
-pub mod Ends
 pub mod Log
-pub mod SearchState
-pub mod SearchSteps
-pub mod CoreValue
-pub mod Examples
+pub mod Searching
+pub mod Calls
+pub mod Laws

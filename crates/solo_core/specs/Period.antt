@@ -13,7 +13,11 @@ use Rattle.solo_core.specs.declared.sheet.Posted.{Posted}
 
 -- a core at the start of its next period: the lemmas and the conflicts of the last one are over
 abbrev pub in_next_period : CoreState → CoreState
-in_next_period k = record k { period = k.period + 1; period_conflicts = 0; lemmas = [] }
+in_next_period state = record state { period = state.period + 1; period_conflicts = 0; lemmas = [] }
+
+-- at the start of a period a core has no lemma and no conflict of it
+abbrev pub BeginsPeriod : CoreState → Type 0
+BeginsPeriod state = (state.period_conflicts ≡ 0) × (state.lemmas ≡ [])
 
 -- none of the clauses has a name of this period and of another core
 abbrev pub NoneOfOthers : List NamedClause → ℕ → ℕ → Type 0
@@ -35,11 +39,11 @@ with_unused (c ∷ later) held = with_unused later (with_clause (unused c) held)
 
 -- a core that holds these clauses too
 abbrev pub with_more : List NamedClause → CoreState → CoreState
-with_more clauses k = with_clauses (with_unused clauses k.clauses) k
+with_more clauses state = with_clauses (with_unused clauses state.clauses) state
 
 -- a core after it imported what these mails post: it is in the next period
 abbrev pub after_import : List Mail → CoreState → CoreState
-after_import mails k = with_more (clauses_posted mails) (in_next_period k)
+after_import mails state = with_more (clauses_posted mails) (in_next_period state)
 
 -- the posts have names of this period and core, with rising indexes from this place on, and their literals are
 -- distinct and within the variables

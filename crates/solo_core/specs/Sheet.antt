@@ -11,8 +11,8 @@ use Rattle.solo_core.specs.declared.sheet.Sheet.{Sheet}
 
 -- the mail of a stretch; no clause is posted yet
 abbrev pub mail_of : CoreFrame → Stretched → Mail
-mail_of f s = record {
-  core = f.core;
+mail_of frame s = record {
+  core = frame.core;
   period = s.state.period;
   end = s.ended;
   conflicts = s.state.period_conflicts;
@@ -22,15 +22,15 @@ mail_of f s = record {
 
 -- the trail is the model of a stretch that ended with one
 abbrev pub model_at : CoreFrame → CoreState → End → Option (List Bool)
-model_at f k Sat = Some (model_of f.variables k.trail)
-model_at f k Unsat = None
-model_at f k Quota = None
-model_at f k Spent = None
+model_at frame state Sat = Some (model_of frame.variables state.trail)
+model_at frame state Unsat = None
+model_at frame state Quota = None
+model_at frame state Spent = None
 
 -- the sheet of a stretch: its mail, the lemmas of the period, and the model where it found one
 abbrev pub sheet_of : CoreFrame → Stretched → Sheet
-sheet_of f s = record { mail = mail_of f s; lemmas = s.state.lemmas; model = model_at f s.state s.ended }
+sheet_of frame s = record { mail = mail_of frame s; lemmas = s.state.lemmas; model = model_at frame s.state s.ended }
 
 -- the sheet of a state whose stretch ended so, if it was made
 abbrev pub sheet_at : CoreFrame → CoreState → Option End → Option Sheet
-sheet_at f k ended = option_map (λ end. sheet_of f (record { state = k; ended = end })) ended
+sheet_at frame state ended = option_map (λ end. sheet_of frame (record { state = state; ended = end })) ended

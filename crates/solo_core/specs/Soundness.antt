@@ -58,22 +58,22 @@ abbrev pub NoneFrom : List NamedClause → ℕ → Type 0
 NoneFrom clauses period = (name : Name) → period ≤ name.period → lits_at clauses name ≡ None
 
 -- what holds of the lemmas of a period, over the clauses that were known when it began
-pub record IsDeriving (base : List NamedClause) (f : CoreFrame) (period : ℕ) (clauses : List HeldClause) (lemmas : List Lemma) : Type 0 where
+pub record IsDeriving (base : List NamedClause) (frame : CoreFrame) (period : ℕ) (clauses : List HeldClause) (lemmas : List Lemma) : Type 0 where
   -- what is held was known when the period began, or is a lemma of the period
   pub carried : FindsMore (lits_at (clauses_of clauses)) (lits_at (base ++ lemma_clauses lemmas)) (λ name. name)
   -- no clause that was known then has a name of this period or a later one
   pub fresh : NoneFrom base period
   -- the lemmas have the next names, are derived from what was known then, and none is empty
-  pub named : AreNamed period f.core 0 lemmas
+  pub named : AreNamed period frame.core 0 lemmas
   pub derived : AreDerived base lemmas
   pub none_empty : AllByRecursion HasLiterals lemmas
   -- their literals are within the variables
-  pub lemmas_within : AreLemmasWithin f.variables lemmas
+  pub lemmas_within : AreLemmasWithin frame.variables lemmas
 
 -- what holds of a core between two turns
-pub record IsSound (base : List NamedClause) (f : CoreFrame) (k : CoreState) : Type 0 where
-  pub holds : IsHolding f.variables k.clauses k.trail
-  pub derives : IsDeriving base f k.period k.clauses k.lemmas
+pub record IsSound (base : List NamedClause) (frame : CoreFrame) (state : CoreState) : Type 0 where
+  pub holds : IsHolding frame.variables state.clauses state.trail
+  pub derives : IsDeriving base frame state.period state.clauses state.lemmas
 
 -- the last lemma, and no earlier one, is empty
 pub record EndsEmpty (lemmas : List Lemma) : Type 0 where
@@ -88,10 +88,10 @@ abbrev pub AreTrueIn : List Bool → List NamedClause → Type 0
 AreTrueIn model clauses = AllByRecursion (λ c. IsTrue (is_clause_true model c.lits)) clauses
 
 -- the trail gives each variable a value, and the model that it is makes each held clause true
-pub record IsModelFound (f : CoreFrame) (k : CoreState) : Type 0 where
-  pub full : IsTrue (is_full f.variables k.trail)
-  pub satisfied : AreTrueIn (model_of f.variables k.trail) (clauses_of k.clauses)
+pub record IsModelFound (frame : CoreFrame) (state : CoreState) : Type 0 where
+  pub full : IsTrue (is_full frame.variables state.trail)
+  pub satisfied : AreTrueIn (model_of frame.variables state.trail) (clauses_of state.clauses)
 
 -- each clause of the formula is held
 abbrev pub HoldsFormula : Cnf → CoreState → Type 0
-HoldsFormula cnf k = FindsAll (look_of k) (originals cnf)
+HoldsFormula cnf state = FindsAll (look_of state) (originals cnf)

@@ -1,40 +1,61 @@
--- What a core is at one moment.
-use Rattle.std.specs.Prelude.{ℕ, Bool, List, [], map, replicate, Option, None}
-use Rattle.lit_base.specs.Cnf.{Cnf}
-use Rattle.lit_base.specs.Rounds.{NamedClause, originals}
-use Rattle.lit_base.specs.Held.{HeldClause, unused}
+-- What a core is at one moment, as contracts see it.
+use Rattle.std.specs.Prelude.{ℕ, Bool, List, map, Option}
+use Rattle.lit_base.specs.Rounds.{NamedClause}
+use Rattle.lit_base.specs.Held.{HeldClause}
 use Rattle.lit_base.specs.declared.trail.Entry.{Entry}
 use Rattle.lit_base.specs.declared.name.Name.{Name}
 use Rattle.solo_core.specs.declared.lemma.Lemma.{Lemma}
+use Rattle.solo_core.specs.declared.sheet.End.{End}
 
--- what never changes of a core: the number of variables, its own number, and the conflicts that it may have in all
+-- == the rules of a core: what never changes of it, and what a turn changes ==
+
+-- what never changes of a core
 pub record CoreFrame : Type 0 where
+  -- the variables of its formula
   pub variables : ℕ
+  -- its own number, from 0
   pub core : ℕ
+  -- the conflicts that it may have in the whole run
   pub limit : ℕ
 
--- what a core has: the number of the period, its clauses by rising names, its trail, the value that each variable had
--- when it last left the trail, its conflicts so far and in this period, and the lemmas of this period
+-- what a core has
 pub record CoreState : Type 0 where
+  -- the number of the period that it is in, from 1
   pub period : ℕ
+  -- the clauses that it holds, by rising names
   pub clauses : List HeldClause
+  -- its trail, the newest entry first
   pub trail : List Entry
+  -- for each variable from 1 on the value that it had when it last left the trail
   pub saved : List (Option Bool)
+  -- its conflicts in the whole run so far
   pub conflicts : ℕ
+  -- those of them that it had in this period
   pub period_conflicts : ℕ
+  -- the lemmas of this period, the oldest first
   pub lemmas : List Lemma
 
--- the first state: the originals, the empty trail, and no variable that ever had a value
-abbrev pub first_state : Cnf → CoreState
-first_state cnf = record {
-  period = 1;
-  clauses = map unused (originals cnf);
-  trail = [];
-  saved = replicate cnf.variables None;
-  conflicts = 0;
-  period_conflicts = 0;
-  lemmas = [];
-}
+-- == the search that follows these rules, and the core around it ==
+
+-- a search
+pub record SearchState : Type 0 where
+  pub frame : CoreFrame
+  pub state : CoreState
+  -- the names of the clauses that propagation goes over
+  pub attached : List Name
+
+-- a core
+pub record CoreValue : Type 0 where
+  pub frame : CoreFrame
+  pub state : CoreState
+  -- how its stretch of this period ended, if it was made
+  pub ended : Option End
+  -- whether its sheet of this period was given
+  pub is_handed : Bool
+  -- whether memory was refused to it
+  pub is_broken : Bool
+
+-- == lemmas under their names ==
 
 -- the name of the lemma at this place, counted from 0, among those of the period
 abbrev pub lemma_name : ℕ → ℕ → ℕ → Name

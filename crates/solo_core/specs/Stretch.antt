@@ -14,32 +14,32 @@ pub record Stretched : Type 0 where
 
 -- after a turn: a decision is followed by more, and anything else ends the search
 abbrev pub after_turn : (CoreState → Turned) → CoreState → TurnEnd → Turned
-after_turn more k Decided = more k
-after_turn more k Learnt = record { state = k; came_to = Learnt }
-after_turn more k Refuted = record { state = k; came_to = Refuted }
-after_turn more k Modelled = record { state = k; came_to = Modelled }
+after_turn more state Decided = more state
+after_turn more state Learnt = record { state = state; came_to = Learnt }
+after_turn more state Refuted = record { state = state; came_to = Refuted }
+after_turn more state Modelled = record { state = state; came_to = Modelled }
 
 -- turns up to the first that comes to no decision, at most as many as the first argument says
-abbrev pub search : ℕ → CoreFrame → CoreState → Turned
-search zero f k = record { state = k; came_to = Decided }
-search (suc most) f k = let t = turn f k in after_turn (search most f) t.state t.came_to
+abbrev pub search_to_conflict : ℕ → CoreFrame → CoreState → Turned
+search_to_conflict zero frame state = record { state = state; came_to = Decided }
+search_to_conflict (suc most) frame state = let t = turn frame state in after_turn (search_to_conflict most frame) t.state t.came_to
 
 -- a stretch without an answer ends at level 0
 abbrev pub ended_at_root : End → CoreState → Stretched
-ended_at_root ended k = record { state = jumped 0 k; ended = ended }
+ended_at_root ended state = record { state = jumped 0 state; ended = ended }
 
 -- after a search: an answer ends the stretch, and so does a conflict that reaches the limit; another is followed by more
 abbrev pub after_search : CoreFrame → (CoreState → Stretched) → CoreState → TurnEnd → Stretched
-after_search f more k Modelled = record { state = k; ended = Sat }
-after_search f more k Refuted = record { state = k; ended = Unsat }
-after_search f more k Learnt = if k.conflicts == f.limit then ended_at_root Spent k else more k
-after_search f more k Decided = ended_at_root Spent k
+after_search frame more state Modelled = record { state = state; ended = Sat }
+after_search frame more state Refuted = record { state = state; ended = Unsat }
+after_search frame more state Learnt = if state.conflicts == frame.limit then ended_at_root Spent state else more state
+after_search frame more state Decided = ended_at_root Spent state
 
 -- a search for each conflict of the quota; one turn more than there are variables always suffices for it
-abbrev pub searches : ℕ → CoreFrame → CoreState → Stretched
-searches zero f k = ended_at_root Quota k
-searches (suc quota) f k = let t = search (f.variables + 1) f k in after_search f (searches quota f) t.state t.came_to
+abbrev pub search_to_quota : ℕ → CoreFrame → CoreState → Stretched
+search_to_quota zero frame state = ended_at_root Quota state
+search_to_quota (suc quota) frame state = let t = search_to_conflict (frame.variables + 1) frame state in after_search frame (search_to_quota quota frame) t.state t.came_to
 
 -- a stretch: a core that has spent its limit does nothing
 abbrev pub stretch : CoreFrame → ℕ → CoreState → Stretched
-stretch f quota k = if k.conflicts == f.limit then record { state = k; ended = Spent } else searches quota f k
+stretch frame quota state = if state.conflicts == frame.limit then record { state = state; ended = Spent } else search_to_quota quota frame state

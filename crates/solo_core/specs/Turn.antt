@@ -22,72 +22,72 @@ pub record Turned : Type 0 where
 
 -- the clauses that a core holds, by their names
 abbrev pub look_of : CoreState → Name → Option (List Literal)
-look_of k = lits_at (clauses_of k.clauses)
+look_of state = lits_at (clauses_of state.clauses)
 
 -- where propagation of the held clauses ends
 abbrev pub propagated : CoreFrame → CoreState → Propagated
-propagated f k = propagate f.variables (clauses_of k.clauses) k.trail
+propagated frame state = propagate frame.variables (clauses_of state.clauses) state.trail
 
 -- the literal of a variable with the value that it last had, and negated where it never had one
 abbrev pub last_literal : CoreState → ℕ → Literal
-last_literal k v = record { variable = v; positive = value_or_false (last_value k.trail k.saved v) }
+last_literal state v = record { variable = v; positive = value_or_false (last_value state.trail state.saved v) }
 
 -- the literal to decide: that of the free variable of lowest number, if one is free
 abbrev pub picked : CoreFrame → CoreState → Option Literal
-picked f k = option_map (last_literal k) (first_free f.variables 1 k.trail)
+picked frame state = option_map (last_literal state) (first_free frame.variables 1 state.trail)
 
 -- the state after the decision of a literal
 abbrev pub decided : Literal → CoreState → CoreState
-decided l k = record k { trail = with_decision l k.trail }
+decided l state = record state { trail = with_decision l state.trail }
 
 -- the state after a jump to a level
 abbrev pub jumped : ℕ → CoreState → CoreState
-jumped level k = record k { trail = cut level k.trail; saved = saved_after level k.trail k.saved }
+jumped level state = record state { trail = cut level state.trail; saved = saved_after level state.trail state.saved }
 
 -- the lemma of a lesson under the next name of the period
 abbrev pub lemma_of : CoreFrame → CoreState → Lesson → Lemma
-lemma_of f k lesson =
-    record { name = lemma_name k.period f.core (length k.lemmas); lits = lesson.lits; hints = lesson.hints }
+lemma_of frame state lesson =
+    record { name = lemma_name state.period frame.core (length state.lemmas); lits = lesson.lits; hints = lesson.hints }
 
 -- a conflict is counted, and its lemma is the next of the period
 abbrev pub with_lemma : Lemma → CoreState → CoreState
-with_lemma lemma k = record k {
-  conflicts = k.conflicts + 1;
-  period_conflicts = k.period_conflicts + 1;
-  lemmas = k.lemmas ++ lemma ∷ [];
+with_lemma lemma state = record state {
+  conflicts = state.conflicts + 1;
+  period_conflicts = state.period_conflicts + 1;
+  lemmas = state.lemmas ++ lemma ∷ [];
 }
 
 -- the lemma is held, without uses, and each of its hints that is a held lemma has one use more
 abbrev pub with_held : Lemma → CoreState → CoreState
-with_held lemma k = record k {
-  clauses = with_uses lemma.hints (with_clause (record { name = lemma.name; lits = lemma.lits; uses = 0 }) k.clauses);
+with_held lemma state = record state {
+  clauses = with_uses lemma.hints (with_clause (record { name = lemma.name; lits = lemma.lits; uses = 0 }) state.clauses);
 }
 
 -- after a conflict above level 0: the lemma is held, and the core jumps back
 abbrev pub learnt : CoreFrame → Lesson → CoreState → CoreState
-learnt f lesson k = let lemma = lemma_of f k lesson in jumped lesson.back (with_held lemma (with_lemma lemma k))
+learnt frame lesson state = let lemma = lemma_of frame state lesson in jumped lesson.back (with_held lemma (with_lemma lemma state))
 
 -- after a conflict at level 0: the lemma, which is empty, is not held
 abbrev pub refuted : CoreFrame → Lesson → CoreState → CoreState
-refuted f lesson k = with_lemma (lemma_of f k lesson) k
+refuted frame lesson state = with_lemma (lemma_of frame state lesson) state
 
 -- a lesson refutes at level 0, and above it is learnt
 abbrev pub taught : CoreFrame → CoreState → Lesson → Turned
-taught f k lesson =
-    if level_now k.trail == 0
-    then record { state = refuted f lesson k; came_to = Refuted }
-    else record { state = learnt f lesson k; came_to = Learnt }
+taught frame state lesson =
+    if level_now state.trail == 0
+    then record { state = refuted frame lesson state; came_to = Refuted }
+    else record { state = learnt frame lesson state; came_to = Learnt }
 
 -- a literal that was picked is decided; where no variable is free the trail is a model
 abbrev pub chosen : CoreState → Option Literal → Turned
-chosen k None = record { state = k; came_to = Modelled }
-chosen k (Some l) = record { state = decided l k; came_to = Decided }
+chosen state None = record { state = state; came_to = Modelled }
+chosen state (Some l) = record { state = decided l state; came_to = Decided }
 
 -- what a turn comes to, from the state after propagation and the conflict that it met, if it met one
 abbrev pub turn_by : CoreFrame → CoreState → Option Name → Turned
-turn_by f k None = chosen k (picked f k)
-turn_by f k (Some conflict) = taught f k (lesson_of (look_of k) k.trail conflict)
+turn_by frame state None = chosen state (picked frame state)
+turn_by frame state (Some conflict) = taught frame state (lesson_of (look_of state) state.trail conflict)
 
 -- one turn
 abbrev pub turn : CoreFrame → CoreState → Turned
-turn f k = let p = propagated f k in turn_by f (record k { trail = p.trail }) p.conflict
+turn frame state = let p = propagated frame state in turn_by frame (record state { trail = p.trail }) p.conflict

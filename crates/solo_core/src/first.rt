@@ -3,13 +3,14 @@ ghost use Rattle.lit_base.specs.Cnf.{IsFormula};
 ghost use Rattle.lit_base.specs.Rounds.{original, named_from};
 ghost use Rattle.lit_base.specs.Named.{lits_at};
 ghost use Rattle.lit_base.specs.Held.{clauses_of, unused, with_clause};
-ghost use Rattle.round_prop.specs.Attached.{held_names};
-ghost use Rattle.solo_core.specs.State.{first_state};
-ghost use Rattle.solo_core.specs.SearchState.{IsAttachedTo, IsJoined};
+ghost use Rattle.solo_core.specs.First.{frame_of, first_state};
+ghost use Rattle.solo_core.specs.Searching.{IsAttachedTo, IsJoined, search_at};
 
+use crate::holding::hold_clause;
 use crate::search::Search;
+use crate::sheet::Settings;
 use clause_pool::Pool;
-use lit_base::{Clause, Formula, List, Lit, Name, NoMemory};
+use lit_base::{Clause, Formula, List, Name, NoMemory};
 use round_prop::Rounds;
 use std::alloc::Global;
 use trail_book::Trail;
@@ -18,14 +19,10 @@ use trail_book::Trail;
 pub(crate) fn first_search(
     alloc: Global,
     formula: &Formula,
+    settings: &Settings,
     core: u32,
-    limit: u32,
 ) -> Result<Search, NoMemory>
-    ensures value { IfOk result (λ search. search ≡ record {
-      frame = record { variables = formula.now.variables; core = core; limit = limit };
-      state = first_state formula.now;
-      attached = held_names (first_state formula.now).clauses;
-    }) }
+    ensures value { IfOk result (λ search. search ≡ search_at (frame_of formula.now settings.now core) (first_state formula.now settings.now core)) }
     ensures joined { IfOk result (λ search. IsJoined search) }
     ensures formula { IsFormula formula.now }
 {
@@ -37,7 +34,7 @@ pub(crate) fn first_search(
     Ok(Search {
         variables,
         core,
-        limit,
+        limit: settings.limit,
         period: 1,
         conflicts: 0,
         period_conflicts: 0,
@@ -62,29 +59,8 @@ fn hold_originals(
     ensures attached { OnOk result (IsAttachedTo rounds.new pool.new trail.now.entries) }
 {
     for (index, clause) in clauses.iter().enumerate() {
-        hold_original(pool, rounds, trail, clause.lits(), index as u32)?;
+        let name = Name::original(index as u32);
+        hold_clause(pool, rounds, trail, name, clause.lits())?;
     }
     Ok(())
-}
-
-/// Holds a clause under the name of the original of this index, and attaches it.
-fn hold_original(
-    pool: &mut Pool,
-    rounds: &mut Rounds,
-    trail: &Trail,
-    lits: &[Lit],
-    index: u32,
-) -> Result<(), NoMemory>
-    requires new { lits_at (clauses_of pool.old) (original index) ≡ None }
-    requires attached { IsAttachedTo rounds.old pool.old trail.now.entries }
-    ensures held { OnOk result (pool.new ≡ with_clause (unused (record { name = original index; lits = lits.now })) pool.old) }
-    ensures attached { OnOk result (IsAttachedTo rounds.new pool.new trail.now.entries) }
-{
-    let name = Name {
-        period: 0,
-        core: 0,
-        index,
-    };
-    pool.add(name, lits)?;
-    rounds.attach(pool, trail, name)
 }

@@ -10,14 +10,12 @@ ghost use Rattle.lit_base.specs.Analysis.{lesson_of};
 ghost use Rattle.trail_book.specs.TrailState.{jumped};
 ghost use Rattle.solo_core.specs.State.{lemma_name};
 ghost use Rattle.solo_core.specs.Turn.{look_of, taught, refuted, learnt, with_lemma};
-ghost use Rattle.solo_core.specs.SearchState.{IsAttachedTo, AreFewUses, IsJoined, IsReady};
-ghost use Rattle.solo_core.specs.SearchSteps.{search_at, IsLesson};
+ghost use Rattle.solo_core.specs.Searching.{IsAttachedTo, AreFewUses, IsJoined, IsReady, search_at, IsLesson};
 
+use crate::holding::hold_lemma;
 use crate::lemma::Lemma;
 use crate::search::Search;
 use crate::turn::TurnEnd;
-use crate::uses::count_uses;
-use clause_pool::Pool;
 use first_uip::analyse;
 use lit_base::{Lesson, Name, NoMemory};
 use round_prop::Rounds;
@@ -86,11 +84,7 @@ impl Search {
         ensures few { self.now.state.conflicts < 2 ^ 32 }
     {
         let _conflicts = self.conflicts;
-        Name {
-            period: self.period,
-            core: self.core,
-            index: self.lemmas.len() as u32,
-        }
+        Name::lemma(self.period, self.core, self.lemmas.len() as u32)
     }
 
     /// Counts a conflict, whose lemma is the next of the period.
@@ -116,25 +110,4 @@ pub(crate) fn jump_back(trail: &mut Trail, rounds: &mut Rounds, level: u32)
 {
     trail.jump(level);
     rounds.jumped(trail);
-}
-
-/// Holds a lemma and attaches it, and counts a use of each of its hints.
-fn hold_lemma(
-    pool: &mut Pool,
-    rounds: &mut Rounds,
-    trail: &Trail,
-    lemma: &Lemma,
-) -> Result<(), NoMemory>
-    requires free { lits_at (clauses_of pool.old) lemma.now.name ≡ None }
-    requires held { AllByRecursion (λ hint. IsSome (lits_at (clauses_of pool.old) hint)) lemma.now.hints }
-    requires distinct { IsDistinct same_name lemma.now.hints }
-    requires few { AreFewUses (2 ^ 32) pool.old }
-    requires attached { IsAttachedTo rounds.old pool.old trail.now.entries }
-    ensures pool { OnOk result (pool.new ≡ with_uses lemma.now.hints (with_clause (record { name = lemma.now.name; lits = lemma.now.lits; uses = 0 }) pool.old)) }
-    ensures attached { OnOk result (IsAttachedTo rounds.new pool.new trail.now.entries) }
-{
-    pool.add(lemma.name, lemma.lits.as_slice())?;
-    rounds.attach(pool, trail, lemma.name)?;
-    count_uses(pool, lemma.hints.as_slice());
-    Ok(())
 }

@@ -7,9 +7,9 @@ ghost use Rattle.lit_base.specs.Rounds.{NamedClause};
 ghost use Rattle.round_prop.specs.Found.{found_of};
 ghost use Rattle.solo_core.specs.Turn.{propagated, picked, chosen, turn, jumped};
 ghost use Rattle.solo_core.specs.Changes.{after_propagation};
-ghost use Rattle.solo_core.specs.Stretch.{search, searches, stretch};
-ghost use Rattle.solo_core.specs.SearchState.{SearchState, IsJoined, IsReady};
-ghost use Rattle.solo_core.specs.SearchSteps.{search_at, FollowsSearch};
+ghost use Rattle.solo_core.specs.Stretch.{search_to_conflict, search_to_quota, stretch};
+ghost use Rattle.solo_core.specs.State.{SearchState};
+ghost use Rattle.solo_core.specs.Searching.{IsJoined, IsReady, search_at, FollowsSearch};
 ghost use Rattle.solo_core.specs.Soundness.{IsSound};
 ghost use Rattle.solo_core.specs.declared.turn.TurnEnd.TheVariants.{Refuted};
 
@@ -25,24 +25,33 @@ use std::alloc::Global;
 use std::marker::Model;
 use trail_book::Trail;
 
-/// What a core searches with: the clauses that it holds, the trail, the clauses that propagation goes over, and the
-/// lemmas of the period.
+/// What a core searches with.
 #[derive(Drop)]
 pub(crate) struct Search {
+    /// The variables of the formula.
     pub(crate) variables: u32,
+    /// The number of the core, from 0.
     pub(crate) core: u32,
+    /// The conflicts that the core may have in the whole run.
     pub(crate) limit: u32,
+    /// The period, from 1.
     pub(crate) period: u32,
+    /// The conflicts in the whole run so far.
     pub(crate) conflicts: u32,
+    /// Those of them in this period.
     pub(crate) period_conflicts: u32,
+    /// The clauses that are held.
     pub(crate) pool: Pool,
+    /// The literals that are true, and why.
     pub(crate) trail: Trail,
+    /// What propagation keeps of the held clauses.
     pub(crate) rounds: Rounds,
+    /// The lemmas of this period.
     pub(crate) lemmas: List<Lemma>,
 }
 
 impl Model for Search {
-    ghost use Rattle.solo_core.specs.SearchState.{SearchState};
+    ghost use Rattle.solo_core.specs.State.{SearchState};
 
     ghost Value = { SearchState };
 
@@ -117,10 +126,10 @@ impl Search {
     /// Turns up to the first that comes to no decision; one turn more than there are variables always suffices.
     ///
     /// After `NoMemory` the search may be in any state.
-    fn search(&mut self, alloc: Global) -> Result<TurnEnd, NoMemory>
+    fn search_to_conflict(&mut self, alloc: Global) -> Result<TurnEnd, NoMemory>
         requires { IsReady self.old }
-        ensures state { OnOk result (self.new ≡ search_at self.old.frame (search (self.old.frame.variables + 1) self.old.frame self.old.state).state) }
-        ensures end { IfOk result (λ end. end ≡ (search (self.old.frame.variables + 1) self.old.frame self.old.state).came_to) }
+        ensures state { OnOk result (self.new ≡ search_at self.old.frame (search_to_conflict (self.old.frame.variables + 1) self.old.frame self.old.state).state) }
+        ensures end { IfOk result (λ end. end ≡ (search_to_conflict (self.old.frame.variables + 1) self.old.frame self.old.state).came_to) }
         ensures joined { OnOk result (IsJoined self.new) }
     {
         let most = self.variables + 1;
@@ -146,18 +155,18 @@ impl Search {
         if self.conflicts == self.limit {
             return Ok(End::Spent);
         }
-        self.searches(alloc, quota)
+        self.search_to_quota(alloc, quota)
     }
 
     /// A search for each conflict of the quota, below the limit.
-    fn searches(&mut self, alloc: Global, quota: u32) -> Result<End, NoMemory>
+    fn search_to_quota(&mut self, alloc: Global, quota: u32) -> Result<End, NoMemory>
         requires { IsReady self.old }
-        ensures state { OnOk result (self.new ≡ search_at self.old.frame (searches quota self.old.frame self.old.state).state) }
-        ensures end { IfOk result (λ ended. ended ≡ (searches quota self.old.frame self.old.state).ended) }
+        ensures state { OnOk result (self.new ≡ search_at self.old.frame (search_to_quota quota self.old.frame self.old.state).state) }
+        ensures end { IfOk result (λ ended. ended ≡ (search_to_quota quota self.old.frame self.old.state).ended) }
         ensures joined { OnOk result (IsJoined self.new) }
     {
         for _ in 0..quota {
-            let end = self.search(alloc)?;
+            let end = self.search_to_conflict(alloc)?;
             if let Some(ended) = self.after_search(end) {
                 return Ok(ended);
             }

@@ -2,7 +2,8 @@ ghost use Rattle.std.specs.Prelude.{◌≡◌, ◌≤◌, ◌<◌, true, false, 
 ghost use Rattle.lit_base.specs.Held.{volume_of};
 ghost use Rattle.solo_core.specs.Stretch.{stretch};
 ghost use Rattle.solo_core.specs.Sheet.{sheet_at};
-ghost use Rattle.solo_core.specs.CoreValue.{first_core, after_stretch, after_sheet};
+ghost use Rattle.solo_core.specs.First.{AreInRange, first_core};
+ghost use Rattle.solo_core.specs.Calls.{after_stretch, after_sheet};
 
 use crate::first::first_search;
 use crate::handing::{mail_of, model_of};
@@ -17,16 +18,22 @@ use std::marker::Model;
 /// After a refusal of memory the core is broken: each later call that takes memory answers `NoMemory`.
 #[derive(Drop)]
 pub struct Core {
+    /// What the core searches with; of a broken core nothing is known of it.
     search: Search,
+    /// How the stretch of this period ended, if it was made.
     ended: Option<End>,
+    /// Whether the sheet of this period was given.
     is_handed: bool,
+    /// Whether memory was refused.
     is_broken: bool,
+    /// Where new lists take their memory: kept, so that the calls of a period need nobody who has it.
     alloc: Global,
 }
 
 impl Model for Core {
     ghost use Rattle.std.specs.Prelude.{◌≡◌, false};
-    ghost use Rattle.solo_core.specs.CoreValue.{CoreValue, IsKept};
+    ghost use Rattle.solo_core.specs.State.{CoreValue};
+    ghost use Rattle.solo_core.specs.Calls.{IsKept};
 
     ghost Value = { CoreValue };
 
@@ -43,16 +50,19 @@ impl Model for Core {
 
 impl Core {
     /// The core of this number at the start of period 1, over the clauses of the formula.
+    ///
+    /// Each setting is in its range, and the number is below `cores`.
     pub fn make(
         alloc: Global,
         formula: &Formula,
         settings: &Settings,
         core: u32,
     ) -> Result<Core, NoMemory>
-        requires { core < settings.now.cores }
+        requires settings { AreInRange settings.now }
+        requires core { core < settings.now.cores }
         ensures { IfOk result (λ made. made ≡ first_core formula.now settings.now core) }
     {
-        let search = first_search(alloc, formula, core, settings.limit)?;
+        let search = first_search(alloc, formula, settings, core)?;
         Ok(Core {
             search,
             ended: None,
@@ -74,6 +84,8 @@ impl Core {
         if self.is_broken {
             return Err(NoMemory);
         }
+        // Broken until the search is done: where memory is refused it stops in the middle of a turn, and every early
+        // return leaves the core so.
         self.is_broken = true;
         let end = self.search.stretch(self.alloc, quota)?;
         self.ended = Some(end);

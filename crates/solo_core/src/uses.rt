@@ -2,7 +2,7 @@ ghost use Rattle.std.specs.Prelude.{◌≡◌, ◌^◌, IsSome};
 ghost use Rattle.std.specs.List.{AllByRecursion, IsDistinct};
 ghost use Rattle.lit_base.specs.Named.{lits_at, same_name};
 ghost use Rattle.lit_base.specs.Held.{clauses_of, with_uses};
-ghost use Rattle.solo_core.specs.SearchState.{AreFewUses};
+ghost use Rattle.solo_core.specs.Searching.{AreFewUses};
 
 use clause_pool::Pool;
 use lit_base::Name;

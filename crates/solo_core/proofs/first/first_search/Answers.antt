@@ -2,7 +2,7 @@ use Rattle.std.proofs.Common.{◌∙◌, ap, sym, subst, length, arith}
 use Rattle.std.specs.Prelude.{None}
 use Rattle.std.proofs.lemmas.List.{length-replicate}
 use Rattle.lit_base.specs.Rounds.{named_from}
-use Rattle.solo_core.specs.SearchState.{AreFewUses}
+use Rattle.solo_core.specs.Searching.{AreFewUses}
 use Rattle.solo_core.proofs.FirstClauses.{few_uses-unused}
 use Rattle.solo_core.proofs.first.first_search.Goals as goal
 

@@ -1,14 +1,15 @@
 use Rattle.std.proofs.Common.{◌≡◌, ap, sym, ◌∙◌, subst, get_or}
 use Rattle.lit_base.specs.Rounds.{original}
 use Rattle.lit_base.specs.Named.{lits_at}
-use Rattle.lit_base.specs.Held.{clauses_of, with_clause}
+use Rattle.lit_base.specs.Held.{clauses_of, unused, with_clause}
 use Rattle.solo_core.proofs.FirstClauses.{held_original, held_from-more, held_from-free}
 use Rattle.solo_core.proofs.first.hold_originals.Goals as goal
 
 -- the name of the next clause is free
-pub hold_original-requires-clause-new : goal.hold_original-requires-clause-new
-hold_original-requires-clause-new c =
-    ap (λ held. lits_at (clauses_of held) (original c.loop-index.index)) c.loop-index.invariant.held ∙ held_from-free c.args.clauses.now c.loop-index.index c.loop-index-test.true
+pub hold_clause-requires-clause-free : goal.hold_clause-requires-clause-free
+hold_clause-requires-clause-free c =
+    ap (λ name. lits_at (clauses_of c.loop-index.pool) name) c.original-name.ensures ∙
+    (ap (λ held. lits_at (clauses_of held) (original c.loop-index.index)) c.loop-index.invariant.held ∙ held_from-free c.args.clauses.now c.loop-index.index c.loop-index-test.true)
 
 -- the next clause is held and attached
 pub loop-index-preserved : goal.loop-index-preserved
@@ -16,9 +17,10 @@ loop-index-preserved c =
     let clauses = c.args.clauses.now in
     let i = c.loop-index.index in
     let lits = c.lits.result.now in
-    let is : lits ≡ get_or clauses i lits = subst (λ l. l ≡ get_or clauses i l) (sym c.lits.ensures) c.index-clauses-index.is in
+    let is : lits ≡ get_or clauses i lits = subst (λ l. l ≡ get_or clauses i l) (sym c.lits.ensures.value) c.index-clauses-index.is in
     record {
-      held = c.in_ok-hold_original.ensures.held
-          ∙ (ap (with_clause (held_original i lits)) c.loop-index.invariant.held ∙ held_from-more clauses i lits c.loop-index-test.true is);
-      attached = c.in_ok-hold_original.ensures.attached;
+      held = c.in_ok-hold_clause.ensures.held
+          ∙ (ap (λ name. with_clause (unused (record { name = name; lits = lits })) c.loop-index.pool) c.original-name.ensures
+          ∙ (ap (with_clause (held_original i lits)) c.loop-index.invariant.held ∙ held_from-more clauses i lits c.loop-index-test.true is));
+      attached = c.in_ok-hold_clause.ensures.attached;
     }

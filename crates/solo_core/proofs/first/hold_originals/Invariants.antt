@@ -1,5 +1,5 @@
 use Rattle.std.proofs.Common.{◌≡◌, take}
-use Rattle.solo_core.specs.SearchState.{IsAttachedTo}
+use Rattle.solo_core.specs.Searching.{IsAttachedTo}
 use Rattle.solo_core.proofs.FirstClauses.{held_from}
 use Rattle.solo_core.proofs.first.hold_originals.Given as goal
 

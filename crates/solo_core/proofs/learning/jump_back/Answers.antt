@@ -1,6 +1,6 @@
 use Rattle.std.proofs.Common.{subst, sym}
 use Rattle.trail_book.specs.TrailState.{TrailState}
-use Rattle.solo_core.specs.SearchState.{IsAttachedTo}
+use Rattle.solo_core.specs.Searching.{IsAttachedTo}
 use Rattle.solo_core.proofs.Joined.{TellsJump, jumped_attached}
 use Rattle.solo_core.proofs.learning.jump_back.Goals as goal
 

@@ -3,7 +3,7 @@ use Rattle.std.specs.Prelude.{IsSome}
 use Rattle.lit_base.specs.Rounds.{original}
 use Rattle.lit_base.specs.Named.{lits_at}
 use Rattle.lit_base.specs.Held.{clauses_of, with_uses}
-use Rattle.solo_core.specs.SearchState.{AreFewUses}
+use Rattle.solo_core.specs.Searching.{AreFewUses}
 use Rattle.solo_core.proofs.CountedUses.{few_uses-counted, few_uses-at, with_uses-none, with_uses-next, hint_held}
 use Rattle.solo_core.proofs.uses.count_uses.Goals as goal
 

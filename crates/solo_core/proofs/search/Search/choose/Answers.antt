@@ -1,6 +1,6 @@
 use Rattle.std.proofs.Common.{subst, sym}
 use Rattle.trail_book.specs.TrailState.{TrailState}
-use Rattle.solo_core.specs.SearchState.{IsJoined}
+use Rattle.solo_core.specs.Searching.{IsJoined}
 use Rattle.solo_core.specs.contracts.search.Search.{the_view}
 use Rattle.solo_core.proofs.Joined.{decided_joined}
 use Rattle.solo_core.proofs.search.Search.choose.Goals as goal

@@ -1,7 +1,8 @@
 use Rattle.std.proofs.Common.{subst, sym}
 use Rattle.lit_base.specs.Held.{clauses_of}
 use Rattle.lit_base.specs.Quiet.{AreQuietBelow}
-use Rattle.solo_core.specs.SearchState.{SearchState, IsJoined}
+use Rattle.solo_core.specs.State.{SearchState}
+use Rattle.solo_core.specs.Searching.{IsJoined}
 use Rattle.solo_core.specs.contracts.search.Search.{the_view}
 use Rattle.solo_core.proofs.Joined.{jumped_joined}
 use Rattle.solo_core.proofs.search.Search.jump_to_root.Goals as goal

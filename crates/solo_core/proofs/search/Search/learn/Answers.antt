@@ -4,7 +4,8 @@ use Rattle.std.specs.List.{AllByRecursion}
 use Rattle.lit_base.specs.Trail.{level_now}
 use Rattle.solo_core.specs.declared.lemma.Lemma.{Lemma}
 use Rattle.solo_core.specs.Turn.{look_of}
-use Rattle.solo_core.specs.SearchState.{SearchState, AreFewUses, IsJoined, IsReady}
+use Rattle.solo_core.specs.State.{SearchState}
+use Rattle.solo_core.specs.Searching.{AreFewUses, IsJoined, IsReady}
 use Rattle.solo_core.specs.contracts.search.Search.{the_view}
 use Rattle.solo_core.proofs.Learnt.{back_low, hints_held, hints_apart, name_free, uses_fit, after_lesson, learnt_joined}
 use Rattle.solo_core.proofs.search.Search.learn.Goals as goal

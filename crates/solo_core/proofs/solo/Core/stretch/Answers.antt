@@ -1,6 +1,7 @@
 use Rattle.std.proofs.Common.{◌≡◌, ◌∙◌, ap, sym, subst}
 use Rattle.std.specs.Prelude.{None}
-use Rattle.solo_core.specs.CoreValue.{CoreValue, IsOpen, IsKept}
+use Rattle.solo_core.specs.State.{CoreValue}
+use Rattle.solo_core.specs.Calls.{IsOpen, IsKept}
 use Rattle.solo_core.proofs.Kept.{stretch_ended}
 use Rattle.solo_core.proofs.solo.Core.stretch.Goals as goal
 

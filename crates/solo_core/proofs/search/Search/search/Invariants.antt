@@ -1,8 +1,0 @@
-use Rattle.std.proofs.Common.{◌-◌}
-use Rattle.solo_core.specs.Stretch.{search}
-use Rattle.solo_core.proofs.Searched.{IsSearching}
-use Rattle.solo_core.proofs.search.Search.search.Given as goal
-
--- the turns to come end where the search ends
-abbrev pub invariant-loop : goal.invariant-loop
-invariant-loop l = IsSearching l.fn.self.frame (search l.most l.fn.self.frame l.fn.self.state) (l.most - l.counter) l.self

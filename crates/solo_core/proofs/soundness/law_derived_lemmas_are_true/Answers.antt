@@ -1,5 +1,0 @@
-use Rattle.solo_core.proofs.DerivedTrue.{derived_true, unsat_refutes}
-use Rattle.solo_core.proofs.soundness.law_derived_lemmas_are_true.Goals as goal
-
-pub returns : goal.returns
-returns c = record { lemmas = derived_true; unsat = unsat_refutes }
