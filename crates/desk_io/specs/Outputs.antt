@@ -24,51 +24,51 @@ created written (Ok _) = option_map (λ _. []) written
 created written (Err _) = written
 
 -- `create` of a name
-pub record Creates (port : Port) (name : List ℕ) (old new : OutputsTold) (result : Result (Unit {0}) PortFault) : Type 0 where
-  pub creates : new.creates ≡ raised old.creates
-  pub names : new.names ≡ names_after old.names name result
-  pub written : (new.at port).written ≡ created (old.at port).written result
-  pub later : (old.at port).faults ≤ (new.at port).faults
-  pub failed : OnFailed result (Rose (old.at port).faults (new.at port).faults)
-  pub others : KeepsOtherPorts port old.at new.at
+pub record Creates (port : Port) (name : List ℕ) (before after : OutputsTold) (result : Result (Unit {0}) PortFault) : Type 0 where
+  pub creates : after.creates ≡ raised before.creates
+  pub names : after.names ≡ names_after before.names name result
+  pub written : (after.at port).written ≡ created (before.at port).written result
+  pub later : (before.at port).faults ≤ (after.at port).faults
+  pub failed : OnFailed result (Rose (before.at port).faults (after.at port).faults)
+  pub others : KeepsOtherPorts port before.at after.at
 
 -- a write of n bytes, at least one: the port grows by the first n of the piece
-pub record GrowsByFirst (n : ℕ) (piece : List ℕ) (old new : Option (List ℕ)) : Type 0 where
+pub record GrowsByFirst (n : ℕ) (piece : List ℕ) (before after : Option (List ℕ)) : Type 0 where
   pub some : 0 < n
   pub within : n ≤ length piece
-  pub bytes : new ≡ append_known old (take n piece)
+  pub bytes : after ≡ append_known before (take n piece)
 
 -- the port grows by what was written, and a write that is refused adds nothing
 abbrev pub Grows : List ℕ → Option (List ℕ) → Option (List ℕ) → Result ℕ PortFault → Type 0
-Grows piece old new (Ok n) = GrowsByFirst n piece old new
-Grows piece old new (Err _) = new ≡ old
+Grows piece before after (Ok n) = GrowsByFirst n piece before after
+Grows piece before after (Err _) = after ≡ before
 
 -- `write` of a piece
-pub record Writes (port : Port) (piece : List ℕ) (old new : OutputsTold) (result : Result ℕ PortFault) : Type 0 where
-  pub creates : new.creates ≡ old.creates
-  pub names : new.names ≡ old.names
-  pub written : Grows piece (old.at port).written (new.at port).written result
-  pub later : (old.at port).faults ≤ (new.at port).faults
-  pub failed : OnFailed result (Rose (old.at port).faults (new.at port).faults)
-  pub others : KeepsOtherPorts port old.at new.at
+pub record Writes (port : Port) (piece : List ℕ) (before after : OutputsTold) (result : Result ℕ PortFault) : Type 0 where
+  pub creates : after.creates ≡ before.creates
+  pub names : after.names ≡ before.names
+  pub written : Grows piece (before.at port).written (after.at port).written result
+  pub later : (before.at port).faults ≤ (after.at port).faults
+  pub failed : OnFailed result (Rose (before.at port).faults (after.at port).faults)
+  pub others : KeepsOtherPorts port before.at after.at
 
 -- the port grows by some front of the text
-pub record GrowsByFront (text : List ℕ) (old new : Option (List ℕ)) : Type 0 where
+pub record GrowsByFront (text : List ℕ) (before after : Option (List ℕ)) : Type 0 where
   pub done : List ℕ
   pub rest : List ℕ
   pub parts : done ++ rest ≡ text
-  pub bytes : new ≡ append_known old done
+  pub bytes : after ≡ append_known before done
 
 -- the port grows by the whole text, and by a front of it where the text is refused
 abbrev pub GrowsWhole : List ℕ → Option (List ℕ) → Option (List ℕ) → Result (Unit {0}) PortFault → Type 0
-GrowsWhole text old new (Ok _) = new ≡ append_known old text
-GrowsWhole text old new (Err _) = GrowsByFront text old new
+GrowsWhole text before after (Ok _) = after ≡ append_known before text
+GrowsWhole text before after (Err _) = GrowsByFront text before after
 
 -- `write_whole` of a text
-pub record WritesWhole (port : Port) (text : List ℕ) (old new : OutputsTold) (result : Result (Unit {0}) PortFault) : Type 0 where
-  pub creates : new.creates ≡ old.creates
-  pub names : new.names ≡ old.names
-  pub written : GrowsWhole text (old.at port).written (new.at port).written result
-  pub later : (old.at port).faults ≤ (new.at port).faults
-  pub failed : OnFailed result (Rose (old.at port).faults (new.at port).faults)
-  pub others : KeepsOtherPorts port old.at new.at
+pub record WritesWhole (port : Port) (text : List ℕ) (before after : OutputsTold) (result : Result (Unit {0}) PortFault) : Type 0 where
+  pub creates : after.creates ≡ before.creates
+  pub names : after.names ≡ before.names
+  pub written : GrowsWhole text (before.at port).written (after.at port).written result
+  pub later : (before.at port).faults ≤ (after.at port).faults
+  pub failed : OnFailed result (Rose (before.at port).faults (after.at port).faults)
+  pub others : KeepsOtherPorts port before.at after.at

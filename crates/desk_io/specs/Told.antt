@@ -36,16 +36,16 @@ raised n = min (n + 1) (2 ^ 64 - 1)
 abbrev pub Rose : ℕ → ℕ → Type 0
 Rose before now = raised before ≤ now
 
--- the slot that a call isn't given tells what it told
-abbrev pub KeepsOtherSlots : Slot → (Slot → SlotTold) → (Slot → SlotTold) → Type 0
-KeepsOtherSlots Formula old new = new Proof ≡ old Proof
-KeepsOtherSlots Proof old new = new Formula ≡ old Formula
+-- what belongs to the slot that a call isn't given stays
+abbrev pub KeepsOtherSlots : {A : Type 0} → Slot → (Slot → A) → (Slot → A) → Type 0
+KeepsOtherSlots Formula before after = after Proof ≡ before Proof
+KeepsOtherSlots Proof before after = after Formula ≡ before Formula
 
--- the two ports that a call isn't given tell what they told
-abbrev pub KeepsOtherPorts : Port → (Port → PortTold) → (Port → PortTold) → Type 0
-KeepsOtherPorts Answer old new = (new Log ≡ old Log) × (new Complaint ≡ old Complaint)
-KeepsOtherPorts Log old new = (new Answer ≡ old Answer) × (new Complaint ≡ old Complaint)
-KeepsOtherPorts Complaint old new = (new Answer ≡ old Answer) × (new Log ≡ old Log)
+-- what belongs to the two ports that a call isn't given stays
+abbrev pub KeepsOtherPorts : {A : Type 0} → Port → (Port → A) → (Port → A) → Type 0
+KeepsOtherPorts Answer before after = (after Log ≡ before Log) × (after Complaint ≡ before Complaint)
+KeepsOtherPorts Log before after = (after Answer ≡ before Answer) × (after Complaint ≡ before Complaint)
+KeepsOtherPorts Complaint before after = (after Answer ≡ before Answer) × (after Log ≡ before Log)
 
 -- what belongs to a slot, of what belongs to each of the two
 abbrev pub by_slot : {A : Type 0} → A → A → Slot → A

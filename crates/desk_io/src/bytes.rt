@@ -21,6 +21,7 @@ pub(crate) fn read_from(bytes: &[u8], position: usize, most: usize, buf: &mut [u
     requires most { 0 < most }
     requires room { 0 < length buf.old }
     ensures fits { position + result < 2 ^ 64 }
+    ensures count { result ≡ min (min (length (drop position bytes.now)) most) (length buf.new) }
     ensures taken { TakesFirst result buf.new (Some (drop position bytes.now))
         (Some (drop (position + result) bytes.now)) }
 {

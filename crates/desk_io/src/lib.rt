@@ -15,6 +15,7 @@ mod memory_outputs;
 mod outputs;
 mod real_inputs;
 mod real_outputs;
+mod standard_streams;
 mod sure_inputs;
 mod sure_outputs;
 #[cfg(test)]

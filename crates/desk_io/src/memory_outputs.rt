@@ -1,7 +1,7 @@
-ghost use Rattle.std.specs.Prelude.{◌≡◌, ◌↔◌, IsTrue, IsErrOf, OnOk, Contains, ◌<◌, ◌≤◌, [], length, Some};
-ghost use Rattle.desk_io.specs.Told.{by_port, fresh_outputs, raised, Rose};
-ghost use Rattle.desk_io.specs.Outputs.{Grows, OnFailed, names_after, created};
-ghost use Rattle.desk_io.specs.Memory.{kept_port};
+ghost use Rattle.std.specs.Prelude.{◌≡◌, ◌↔◌, IsTrue, IsErrOf, OnOk, IfOk, Contains, ◌<◌, ◌≤◌, [], length, Some};
+ghost use Rattle.desk_io.specs.Told.{fresh_outputs, raised, Rose};
+ghost use Rattle.desk_io.specs.Outputs.{Creates, Writes, Grows, OnFailed, names_after, created};
+ghost use Rattle.desk_io.specs.Memory.{outputs_with, PortIsToFail, CountsPortCall, port_faults_after};
 
 use crate::bytes::{keep_name, keep_some};
 use crate::{Outputs, Port, PortFault};
@@ -31,11 +31,14 @@ struct Kept {
 }
 
 impl MemoryOutputs {
+    ghost use Rattle.desk_io.specs.Shown.{shown_outputs};
+
     /// A call of `write` takes at most `grain` bytes, and fewer where memory runs out. The calls on
     /// a port are numbered from 1; one whose number stands in `failing` fails.
     pub fn new(alloc: Global, grain: usize, failing: List<(Port, u64)>) -> MemoryOutputs
         requires { 0 < grain }
-        ensures { ⟦<MemoryOutputs as Outputs>⟧.told result ≡ fresh_outputs (Some []) (Some []) }
+        ensures told { ⟦<MemoryOutputs as Outputs>⟧.told result ≡ fresh_outputs (Some []) (Some []) }
+        ensures shown { shown_outputs result ≡ outputs_with grain failing }
     {
         MemoryOutputs {
             alloc,
@@ -109,8 +112,11 @@ fn write_kept(
 ) -> Result<usize, PortFault>
     requires grain { 0 < grain }
     requires some { 0 < length piece.now }
-    ensures fails { IsErrOf result PortFault.Failed ↔ Contains failing.now (port, kept.new.calls) }
+    ensures fails { IsErrOf result PortFault.Failed ↔ Contains failing.now (port, raised kept.old.calls) }
+    ensures takes { IfOk result (λ n. n ≤ grain) }
     ensures written { Grows piece.now (Some kept.old.bytes) (Some kept.new.bytes) result }
+    ensures calls { kept.new.calls ≡ raised kept.old.calls }
+    ensures faults { kept.new.faults ≡ port_faults_after kept.old.faults result }
     ensures later { kept.old.faults ≤ kept.new.faults }
     ensures failed { OnFailed result (Rose kept.old.faults kept.new.faults) }
 {
@@ -128,10 +134,12 @@ fn create_kept(
     names: &mut List<Text>,
     name: &str,
 ) -> Result<(), PortFault>
-    ensures ok { OnOk result (¬ Contains failing.now (Port.Log, log.new.calls)) }
-    ensures fails { OnFailed result (Contains failing.now (Port.Log, log.new.calls)) }
+    ensures ok { OnOk result (¬ Contains failing.now (Port.Log, raised log.old.calls)) }
+    ensures fails { OnFailed result (Contains failing.now (Port.Log, raised log.old.calls)) }
     ensures names { Some names.new ≡ names_after (Some names.old) name.now result }
     ensures written { Some log.new.bytes ≡ created (Some log.old.bytes) result }
+    ensures calls { log.new.calls ≡ raised log.old.calls }
+    ensures faults { log.new.faults ≡ port_faults_after log.old.faults result }
     ensures later { log.old.faults ≤ log.new.faults }
     ensures failed { OnFailed result (Rose log.old.faults log.new.faults) }
 {
@@ -145,19 +153,35 @@ fn create_kept(
 }
 
 impl Outputs for MemoryOutputs {
-    ghost told = { λ s. record {
-      at = by_port (kept_port s.answer) (kept_port s.log) (kept_port s.complaint);
-      names = Some s.names;
-      creates = s.creates;
-    } };
+    ghost use Rattle.desk_io.specs.Shown.{shown_outputs};
 
-    fn create(&mut self, _port: Port, name: &str) -> Result<(), PortFault> {
+    ghost told = { λ s. (shown_outputs s).told };
+
+    fn create(&mut self, port: Port, name: &str) -> Result<(), PortFault>
+        requires { port ≡ Port.Log }
+        ensures creates { Creates port name.now (shown_outputs self.old).told (shown_outputs self.new).told result }
+        ensures counted { CountsPortCall port (shown_outputs self.old) (shown_outputs self.new) }
+
+        // Memory may run out for the name, also in a call that is to fail.
+        ensures ok { OnOk result (¬ PortIsToFail port (shown_outputs self.old)) }
+        ensures fails { OnFailed result (PortIsToFail port (shown_outputs self.old)) }
+        ensures faults { ((shown_outputs self.new).told.at port).faults
+            ≡ port_faults_after ((shown_outputs self.old).told.at port).faults result }
+    {
         self.creates = self.creates.saturating_add(1);
         let failing = self.failing.as_slice();
         create_kept(self.alloc, &mut self.log, failing, &mut self.names, name)
     }
 
-    fn write(&mut self, port: Port, piece: &[u8]) -> Result<usize, PortFault> {
+    fn write(&mut self, port: Port, piece: &[u8]) -> Result<usize, PortFault>
+        requires { 0 < length piece.now }
+        ensures writes { Writes port piece.now (shown_outputs self.old).told (shown_outputs self.new).told result }
+        ensures counted { CountsPortCall port (shown_outputs self.old) (shown_outputs self.new) }
+        ensures fails { IsErrOf result PortFault.Failed ↔ PortIsToFail port (shown_outputs self.old) }
+        ensures takes { IfOk result (λ n. n ≤ (shown_outputs self.old).grain) }
+        ensures faults { ((shown_outputs self.new).told.at port).faults
+            ≡ port_faults_after ((shown_outputs self.old).told.at port).faults result }
+    {
         let failing = self.failing.as_slice();
         match port {
             Port::Answer => write_kept(&mut self.answer, port, failing, self.grain, piece),

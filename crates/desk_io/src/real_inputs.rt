@@ -1,7 +1,8 @@
 ghost use Rattle.std.specs.Prelude.{◌≡◌, ◌≤◌, length, IfOk, OnErr};
-ghost use Rattle.desk_io.specs.Told.{InputsTold, by_slot, fresh_inputs, raised, Rose};
-ghost use Rattle.desk_io.specs.Real.{nothing_held, open_slot};
+ghost use Rattle.desk_io.specs.Told.{fresh_inputs, raised, Rose};
+ghost use Rattle.desk_io.specs.Real.{nothing_held, real_inputs_told};
 
+use crate::standard_streams::fill_closed_streams;
 use crate::{Failed, Inputs, Slot};
 use std::fs::File;
 use std::io::Read;
@@ -24,10 +25,12 @@ struct OpenSlot {
 }
 
 impl RealInputs {
-    /// No file is open yet.
+    /// No file is open yet. From here on no file takes the place of a standard stream that was
+    /// closed.
     pub fn new(rt: HostRuntime) -> RealInputs
         ensures { ⟦<RealInputs as Inputs>⟧.told result ≡ fresh_inputs nothing_held }
     {
+        fill_closed_streams(&rt);
         RealInputs {
             rt,
             formula: closed(),
@@ -79,10 +82,7 @@ fn read_file(slot: &mut OpenSlot, buf: &mut [u8]) -> Result<usize, Failed>
 }
 
 impl Inputs for RealInputs {
-    ghost told = { λ s. record {
-      held = nothing_held;
-      at = by_slot (open_slot s.formula) (open_slot s.proof);
-    } };
+    ghost told = { real_inputs_told };
 
     fn begin(&mut self, slot: Slot, name: &str) -> Result<(), Failed> {
         match slot {

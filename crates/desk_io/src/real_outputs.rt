@@ -1,7 +1,9 @@
 ghost use Rattle.std.specs.Prelude.{◌≡◌, ◌<◌, ◌≤◌, length, IfOk, None};
-ghost use Rattle.desk_io.specs.Told.{OutputsTold, by_port, fresh_outputs, told_port, Rose};
+ghost use Rattle.desk_io.specs.Told.{fresh_outputs, Rose};
 ghost use Rattle.desk_io.specs.Outputs.{OnFailed};
+ghost use Rattle.desk_io.specs.Real.{real_outputs_told};
 
+use crate::standard_streams::fill_closed_streams;
 use crate::{Outputs, Port, PortFault};
 use std::fs::File;
 use std::io;
@@ -20,10 +22,12 @@ pub struct RealOutputs {
 }
 
 impl RealOutputs {
-    /// There is no log yet.
+    /// There is no log yet. From here on no file takes the place of a standard stream that was
+    /// closed, and each write to such a stream fails.
     pub fn new(rt: HostRuntime) -> RealOutputs
         ensures { ⟦<RealOutputs as Outputs>⟧.told result ≡ fresh_outputs None None }
     {
+        fill_closed_streams(&rt);
         RealOutputs {
             rt,
             log: None,
@@ -99,12 +103,7 @@ fn create_log(
 }
 
 impl Outputs for RealOutputs {
-    ghost told = { λ s. record {
-      at =
-          by_port (told_port None s.answer_faults) (told_port None s.log_faults) (told_port None s.complaint_faults);
-      names = None;
-      creates = s.creates;
-    } };
+    ghost told = { real_outputs_told };
 
     fn create(&mut self, _port: Port, name: &str) -> Result<(), PortFault> {
         self.creates = self.creates.saturating_add(1);

@@ -1,7 +1,8 @@
-ghost use Rattle.std.specs.Prelude.{◌≡◌, ◌<◌, length, Some, IsOk};
-ghost use Rattle.desk_io.specs.Told.{by_slot, fresh_inputs, raised};
+ghost use Rattle.std.specs.Prelude.{◌≡◌, ◌<◌, length, Some, IsOkAnd, IsOk};
+ghost use Rattle.desk_io.specs.Told.{fresh_inputs, raised};
 ghost use Rattle.desk_io.specs.Inputs.{Begins, Reads, TakesFirst};
-ghost use Rattle.desk_io.specs.Sure.{held_by_slot, sure_slot};
+ghost use Rattle.desk_io.specs.Memory.{count_read};
+ghost use Rattle.desk_io.specs.Sure.{held_by_slot, sure_slot, sure_inputs_told};
 
 use crate::bytes::read_from;
 use crate::{Failed, Inputs, Slot};
@@ -56,6 +57,7 @@ fn begin_slot(slot: &mut SureSlot)
 /// Reads on from where the last read ended.
 fn read_slot(slot: &mut SureSlot, buf: &mut [u8]) -> usize
     requires { 0 < length buf.old }
+    ensures gives { result ≡ count_read (sure_slot slot.old).left (length buf.new) buf.new }
     ensures bytes { slot.new.bytes ≡ slot.old.bytes }
     ensures begins { slot.new.begins ≡ slot.old.begins }
     ensures begun { (sure_slot slot.new).begun ≡ (sure_slot slot.old).begun }
@@ -70,14 +72,10 @@ fn read_slot(slot: &mut SureSlot, buf: &mut [u8]) -> usize
 }
 
 impl Inputs for SureInputs {
-    ghost told = { λ s. record {
-      held = held_by_slot s.formula.bytes s.proof.bytes;
-      at = by_slot (sure_slot s.formula) (sure_slot s.proof);
-    } };
+    ghost told = { sure_inputs_told };
 
     fn begin(&mut self, slot: Slot, name: &str) -> Result<(), Failed>
-        ensures begins { Begins slot name.now
-            (⟦<SureInputs as Inputs>⟧.told self.old) (⟦<SureInputs as Inputs>⟧.told self.new) result }
+        ensures begins { Begins slot name.now (sure_inputs_told self.old) (sure_inputs_told self.new) result }
         ensures never_fails { IsOk result }
     {
         match slot {
@@ -89,9 +87,9 @@ impl Inputs for SureInputs {
 
     fn read(&mut self, slot: Slot, buf: &mut [u8]) -> Result<usize, Failed>
         requires { 0 < length buf.old }
-        ensures reads { Reads slot buf.new
-            (⟦<SureInputs as Inputs>⟧.told self.old) (⟦<SureInputs as Inputs>⟧.told self.new) result }
-        ensures never_fails { IsOk result }
+        ensures reads { Reads slot buf.new (sure_inputs_told self.old) (sure_inputs_told self.new) result }
+        ensures gives { IsOkAnd result (λ n.
+            n ≡ count_read ((sure_inputs_told self.old).at slot).left (length buf.new) buf.new) }
     {
         Ok(match slot {
             Slot::Formula => read_slot(&mut self.formula, buf),

@@ -1,7 +1,7 @@
 ghost use Rattle.std.specs.Prelude.{◌≡◌, ◌<◌, [], length, Some};
-ghost use Rattle.desk_io.specs.Told.{by_port, fresh_outputs, raised};
+ghost use Rattle.desk_io.specs.Told.{fresh_outputs, raised};
 ghost use Rattle.desk_io.specs.Outputs.{Creates, Writes, OnFailed};
-ghost use Rattle.desk_io.specs.Sure.{sure_port};
+ghost use Rattle.desk_io.specs.Sure.{sure_outputs_told};
 
 use crate::bytes::{keep_name, keep_some};
 use crate::{Outputs, Port, PortFault};
@@ -55,16 +55,11 @@ impl SureOutputs {
 }
 
 impl Outputs for SureOutputs {
-    ghost told = { λ s. record {
-      at = by_port (sure_port s.answer) (sure_port s.log) (sure_port s.complaint);
-      names = Some s.names;
-      creates = s.creates;
-    } };
+    ghost told = { sure_outputs_told };
 
     fn create(&mut self, port: Port, name: &str) -> Result<(), PortFault>
         requires { port ≡ Port.Log }
-        ensures creates { Creates port name.now
-            (⟦<SureOutputs as Outputs>⟧.told self.old) (⟦<SureOutputs as Outputs>⟧.told self.new) result }
+        ensures creates { Creates port name.now (sure_outputs_told self.old) (sure_outputs_told self.new) result }
         ensures never_failed { OnFailed result ⊥ }
     {
         self.creates = self.creates.saturating_add(1);
@@ -75,8 +70,7 @@ impl Outputs for SureOutputs {
 
     fn write(&mut self, port: Port, piece: &[u8]) -> Result<usize, PortFault>
         requires { 0 < length piece.now }
-        ensures writes { Writes port piece.now
-            (⟦<SureOutputs as Outputs>⟧.told self.old) (⟦<SureOutputs as Outputs>⟧.told self.new) result }
+        ensures writes { Writes port piece.now (sure_outputs_told self.old) (sure_outputs_told self.new) result }
         ensures never_failed { OnFailed result ⊥ }
     {
         let taken = match port {
