@@ -1,4 +1,5 @@
 pub mod DistinctLits
+pub mod Apart
 pub mod Signs
 pub mod RoundSteps
 pub mod ValueLines
@@ -25,3 +26,7 @@ pub mod HeldClauses
 pub mod LessonHints
 pub mod TrailWithin
 pub mod HintsDistinct
+pub mod Passed
+pub mod Touched
+pub mod NameOrder
+pub mod RoundOrder

@@ -1,6 +1,6 @@
 -- Clauses that a core holds under their names, each with how often it was a hint since the last reduction.
-use Rattle.std.specs.Prelude.{ℕ, ◌+◌, ◌==◌, nat_lt, Bool, not, ◌&&◌, ◌||◌, if◌then◌else◌, List, [], ◌∷◌, length, map, filter}
-use Rattle.std.specs.List.{list_any}
+use Rattle.std.specs.Prelude.{⊤, IsTrue, ℕ, ◌+◌, ◌==◌, nat_lt, Bool, not, ◌&&◌, ◌||◌, if◌then◌else◌, List, [], ◌∷◌, length, map, filter}
+use Rattle.std.specs.List.{list_any, AllByRecursion}
 use Rattle.lit_base.specs.Literal.{Literal}
 use Rattle.lit_base.specs.Rounds.{NamedClause}
 use Rattle.lit_base.specs.Named.{same_name}
@@ -29,6 +29,11 @@ abbrev pub is_before : Name → Name → Bool
 is_before a b =
     nat_lt a.period b.period
     || ((a.period == b.period) && (nat_lt a.core b.core || ((a.core == b.core) && nat_lt a.index b.index)))
+
+-- items stand by rising names: each name is before those of all later items
+abbrev pub AreRisingBy : {X : Type 0} → (X → Name) → List X → Type 0
+AreRisingBy name_of [] = ⊤
+AreRisingBy name_of (x ∷ later) = AllByRecursion (λ y. IsTrue (is_before (name_of x) (name_of y))) later × AreRisingBy name_of later
 
 -- the clauses with one more, in front of the first that has a greater name
 abbrev pub with_clause : HeldClause → List HeldClause → List HeldClause

@@ -1,14 +1,12 @@
-ghost use Rattle.std.specs.Prelude.{◌↔◌, IsTrue, All};
-ghost use Rattle.lit_base.specs.Literal.{IsWithin};
-
 use crate::{
     Clause, Entry, Formula, List, Lit, Model, Name, NoMemory, Text, Value,
-    law_checked_proof_refutes, law_conflict_has_two_literals, law_conflict_refutes,
-    law_empty_lemma_decides, law_fixed_point_is_quiet, law_found_more_follows,
-    law_full_trail_satisfies, law_hints_are_distinct, law_jump_fits, law_lesson_follows,
-    law_lesson_is_asserting, law_model_has_each_value, law_originals_are_found,
-    law_propagation_fits, law_root_lesson_is_empty, law_rounds_suffice, law_small_lesson,
-    law_small_proofs,
+    law_checked_proof_refutes, law_conflict_has_two_literals, law_conflict_is_least,
+    law_conflict_refutes, law_empty_lemma_decides, law_few_hints, law_fixed_point_is_quiet,
+    law_found_more_follows, law_full_trail_satisfies, law_hints_are_distinct, law_jump_fits,
+    law_lesson_follows, law_lesson_is_asserting, law_lesson_literals, law_model_has_each_value,
+    law_names_are_ordered, law_originals_are_found, law_propagation_fits, law_root_lesson_is_empty,
+    law_rounds_suffice, law_small_lesson, law_small_proofs, law_touched_variables,
+    law_units_by_name,
 };
 use std::alloc::Global;
 use std::process::Abort;
@@ -32,16 +30,6 @@ fn numbers(alloc: Global, clause: &Clause) -> Result<Vec<i32>, NoMemory> {
     Ok(numbers)
 }
 
-/// Whether the clause's variables are at most this one.
-fn is_within(clause: &Clause, variables: u32) -> bool
-    ensures { IsTrue result ↔ All (IsWithin variables) clause.now }
-{
-    clause
-        .lits()
-        .iter()
-        .all(|lit| 1 <= lit.var() && lit.var() <= variables)
-}
-
 /// Adds a clause of these literals to the formula.
 fn push_clause(
     rt: &impl Abort,
@@ -50,7 +38,7 @@ fn push_clause(
     numbers: &[i32],
 ) -> Result<(), NoMemory> {
     let clause = Clause::of(alloc, &lits(rt, alloc, numbers)?)?;
-    assert!(rt; formula.len() < 10 && is_within(&clause, formula.variables()));
+    assert!(rt; formula.len() < 10 && clause.is_within(formula.variables()));
     formula.push(clause)
 }
 
@@ -58,14 +46,6 @@ fn push_clause(
 fn is_satisfied(rt: &impl Abort, formula: &Formula, model: &Model) -> bool {
     assert_eq!(rt; model.values().len(), formula.variables() as usize);
     formula.satisfied(model)
-}
-
-fn model(alloc: Global, values: &[bool]) -> Result<Model, NoMemory> {
-    let mut list = List::new(alloc);
-    for value in values {
-        list.push(*value)?;
-    }
-    Ok(Model::new(list))
 }
 
 #[test]
@@ -164,7 +144,7 @@ fn a_formula_holds_its_clauses_and_judges_models(rt: HostRuntime) -> Result<(), 
         ([false, false, true], true),
         ([true, false, false], false),
     ] {
-        let model = model(alloc, &values)?;
+        let model = Model::new(List::of(alloc, &values)?);
         assert_eq!(rt; model.values(), values.as_slice());
         assert_eq!(rt;
             is_satisfied(&rt, &formula, &model),
@@ -173,7 +153,7 @@ fn a_formula_holds_its_clauses_and_judges_models(rt: HostRuntime) -> Result<(), 
         );
     }
     push_clause(&rt, alloc, &mut formula, &[])?;
-    let all = model(alloc, &[true, true, true])?;
+    let all = Model::new(List::of(alloc, &[true, true, true])?);
     assert_eq!(rt; is_satisfied(&rt, &formula, &all), false);
     Ok(())
 }
@@ -204,35 +184,28 @@ fn a_text_is_its_own_copy(rt: HostRuntime) -> Result<(), Fail> {
     Ok(())
 }
 
-fn name(period: u32, core: u32, index: u32) -> Name {
-    Name {
-        period,
-        core,
-        index,
-    }
-}
-
 #[test]
 fn names_are_ordered_as_in_a_dictionary(rt: HostRuntime) {
     let rising = [
-        name(0, 0, 0),
-        name(0, 0, 9),
-        name(0, 1, 0),
-        name(0, 1, 1),
-        name(1, 0, 0),
-        name(1, 0, 7),
-        name(2, 0, 0),
+        Name::lemma(0, 0, 0),
+        Name::lemma(0, 0, 9),
+        Name::lemma(0, 1, 0),
+        Name::lemma(0, 1, 1),
+        Name::lemma(1, 0, 0),
+        Name::lemma(1, 0, 7),
+        Name::lemma(2, 0, 0),
     ];
     for (i, low) in rising.iter().enumerate() {
         for (j, high) in rising.iter().enumerate() {
             assert!(rt; low.cmp(high) == i.cmp(&j), "at {i} and {j}");
+            assert!(rt; low.is_before(*high) == (i < j), "at {i} and {j}");
         }
     }
 }
 
 #[test]
 fn entries_and_values_are_compared_by_all_that_they_hold(rt: HostRuntime) {
-    let reason = Some(name(0, 0, 5));
+    let reason = Some(Name::original(5));
     let lit = Lit::of(1, true);
     let entry = Entry {
         lit,
@@ -288,6 +261,12 @@ fn laws_can_be_called(_rt: HostRuntime) {
     law_originals_are_found();
     law_conflict_refutes();
     law_small_lesson();
+    law_lesson_literals();
+    law_touched_variables();
+    law_few_hints();
+    law_conflict_is_least();
+    law_units_by_name();
+    law_names_are_ordered();
     law_jump_fits();
     law_fixed_point_is_quiet();
     law_conflict_has_two_literals();

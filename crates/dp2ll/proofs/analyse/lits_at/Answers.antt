@@ -19,5 +19,5 @@ returns-in_err-clause c =
 pub returns : goal.returns
 returns c =
     let found = c.in_ok-clause.ensures.lookup in
-    ap (λ lits. Some lits) c.lits.ensures
+    ap (λ lits. Some lits) c.lits.ensures.value
     ∙ sym (lits_at-within c.args.formula.now c.clauses.result.now c.args.name c.in_ok-clause.clause.now c.clauses.ensures.value c.if-name-ne0.false c.if-name-ne0-2.false found.3.0 found.1)

@@ -15,7 +15,7 @@ loop-index-preserved c =
     c.unit_of-unit.ensures
     ∙ (ap (λ t. unit_of (reverse (take c.len-seen.result t)) c.lits.result.now) c.deref.ensures.value
     ∙ (ap (λ t. unit_of (reverse t) c.lits.result.now) c.loop-index.invariant.snapshot
-    ∙ ap (λ ls. unit_of first ls) c.lits.ensures)) in
+    ∙ ap (λ ls. unit_of first ls) c.lits.ensures.value)) in
     let step =
     with_units-step first c.clauses-clause-items.result.now index c.clause-item.result unit (reverse c.loop-index.trail.items) (reverse c.add_unit.new.trail.items)
     (omega arith) c.clause-item.is unit_is c.in_ok-add_unit.ensures in
