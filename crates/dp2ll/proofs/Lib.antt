@@ -1,7 +1,8 @@
 pub mod ReadingLemmas
-pub mod Complete
-pub mod Ports
 pub mod Decided
 pub mod AnalyseLemmas
-pub mod Complaining
+pub mod Statuses
+pub mod Whole
+pub mod Ports
+pub mod Complete
 pub mod Sentences

@@ -1,25 +1,27 @@
 -- Steps of reading a file piece by piece.
-use Rattle.std.proofs.Common.{◌≡◌, ◌⊎◌, ℕ, ◌≤◌, ◌<◌, ◌+◌, List, [], ◌++◌, length, refl, ap, sym, ◌∙◌, inl, inr, append_assoc, length-append, arith, Option, Some, None, Result, Ok, Err, Bool, true, false}
-use Rattle.std.specs.Io.KnownBytes.{prepend_known, IsAtEnd}
+use Rattle.std.proofs.Common.{◌≡◌, ◌⊎◌, ℕ, ◌≤◌, ◌+◌, List, [], ◌++◌, length, refl, ap, sym, ◌∙◌, inl, inr, append_assoc, append-nil, length-append, arith, Option, Some, None, Ok, Err, Bool, true, false, take, length-take}
+use Rattle.std.specs.Io.KnownBytes.{prepend_known}
 use Rattle.lit_base.specs.Cnf.{Cnf}
-use Rattle.desk_io.specs.Told.{InputsTold, Rose, raised}
+use Rattle.desk_io.specs.Told.{InputsTold, SlotTold, Rose}
+use Rattle.desk_io.specs.Inputs.{TakesFirst}
 use Rattle.desk_io.specs.declared.Slot.TheVariants.{Formula}
 use Rattle.cnf_text.specs.declared.fault.CnfFault.{CnfFault}
 use Rattle.cnf_text.specs.declared.fault.CnfFault.TheVariants as cnf
+use Rattle.cnf_text.specs.Faults.{OnFault}
 use Rattle.cnf_text.specs.State.{ReaderState}
 use Rattle.cnf_text.specs.Reading.{HasRead, Ends, early_fault, is_ended, formula_of}
 use Rattle.cnf_text.proofs.Fed.{has_read_short, has_no_early_fault}
-use Rattle.dp2ll.specs.declared.ending.Ending.{Ending}
-use Rattle.dp2ll.specs.declared.ending.Ending.TheVariants.{Satisfiable, Unsatisfiable, LeftOpen, Usage, NoFormula, ReadFault, LogFault, AnswerFault, NoMemory}
-use Rattle.dp2ll.specs.Reading.{KeepsBegun, IsReading, ReadsPiece, TakesPiece, TakesNothing, TakesLast, ReadsPieces, ReadsAll, Finds, IsRead, IsNoFormula, IsReadFault, refusal_of}
+use Rattle.dp2ll.specs.declared.ending.ReadStop.{ReadStop}
+use Rattle.dp2ll.specs.declared.ending.ReadStop.TheVariants.{NoFormula, ReadFault, NoMemory}
+use Rattle.dp2ll.specs.Reading.{KeepsBegun, GoesOn, Takes, bytes_taken, IsReading, StopsAtPiece, ReadsPiece, MeetsFault, StopsBy, ReadsOn, ReadsNothing, ReadsLast, TakesPiece, ReadsAll, StopsReading, IsRead, IsOfFile}
 
 -- bytes put before bytes put before the known ones
-pub prepend_twice : (front back : List ℕ) (known : Option (List ℕ)) → prepend_known front (prepend_known back known) ≡ prepend_known (front ++ back) known
+prepend_twice : (front back : List ℕ) (known : Option (List ℕ)) → prepend_known front (prepend_known back known) ≡ prepend_known (front ++ back) known
 prepend_twice front back None = refl
 prepend_twice front back (Some bytes) = ap (λ (all : List ℕ). Some all) (sym (append_assoc front back bytes))
 
 -- no bytes put before the known ones
-pub prepend_nothing : (known : Option (List ℕ)) → prepend_known [] known ≡ known
+prepend_nothing : (known : Option (List ℕ)) → prepend_known [] known ≡ known
 prepend_nothing None = refl
 prepend_nothing (Some bytes) = refl
 
@@ -29,16 +31,77 @@ taken_on : (taken piece : List ℕ) (start now next : Option (List ℕ)) → sta
 taken_on taken piece start now next rest left = rest ∙ ap (prepend_known taken) left ∙ prepend_twice taken piece next
 
 -- a count that rose from a later moment rose from an earlier one
-rose_since : (first old new : ℕ) → first ≤ old → Rose old new → Rose first new
-rose_since first old new later rose = omega arith
+rose_since : (first before after : ℕ) → first ≤ before → Rose before after → Rose first after
+rose_since first before after later rose = omega arith
 
 -- the line that ends the input isn't met in nothing
 nothing_ended : is_ended [] ≡ false
 unfolding is_ended
 nothing_ended = refl
 
+-- before anything is taken a first piece is to be read
+nothing_goes_on : (reader : ReaderState) → HasRead reader [] → GoesOn []
+nothing_goes_on reader read = record { no_fault = has_no_early_fault reader [] read; not_ended = nothing_ended }
+
+-- judged pieces and one more
+abbrev takes_more : (held now next : Option (List ℕ)) (taken piece : List ℕ) → GoesOn taken → length piece ≤ 65536 → held ≡ prepend_known taken now
+    → now ≡ prepend_known piece next → Takes held next
+takes_more held now next taken piece goes_on short rest left = record {
+  judged = taken;
+  last = piece;
+  goes_on = goes_on;
+  piece = short;
+  rest = taken_on taken piece held now next rest left;
+}
+
+-- judged pieces alone
+abbrev takes_judged : (held left : Option (List ℕ)) (taken : List ℕ) → GoesOn taken → held ≡ prepend_known taken left → Takes held left
+takes_judged held left taken goes_on rest = record {
+  judged = taken;
+  last = [];
+  goes_on = goes_on;
+  piece = omega arith;
+  rest = rest ∙ ap (λ bytes. prepend_known bytes left) (sym (append-nil taken));
+}
+
+-- a fault of the file that an answer owes a fact for
+owed : (fault : CnfFault) (P : Type 0) → IsOfFile fault → OnFault fault P → P
+owed cnf.NoMemory P of_file fact = absurd (of_file refl)
+owed fault P of_file fact = fact
+
+-- a front of a short buffer is short
+pub piece_short : (buf bytes : List ℕ) (n : ℕ) → length buf ≤ 65536 → bytes ≡ take n buf → length bytes ≤ 65536
+piece_short buf bytes n short same = rw same (omega (arith, length-take n buf, short))
+
+-- a read of some bytes took a piece
+abbrev pub piece_taken : (before after : SlotTold) (buf bytes : List ℕ) (n : ℕ) → TakesFirst n buf before.left after.left → length buf ≤ 65536
+    → bytes ≡ take n buf → TakesPiece before after
+piece_taken before after buf bytes n first short same = record {
+  bytes = bytes;
+  piece = piece_short buf bytes n short same;
+  left = first.bytes ∙ ap (λ piece. prepend_known piece after.left) (sym same);
+}
+
+-- a piece that the reader has read without a fault
+pub piece_fed : (before after : SlotTold) (reader : ReaderState) (taken : List ℕ) (done : Bool) → (takes : TakesPiece before after)
+    → 1 ≤ length takes.bytes → HasRead reader (taken ++ takes.bytes) → early_fault (taken ++ takes.bytes) ≡ None
+    → done ≡ is_ended (taken ++ takes.bytes) → ReadsPiece before after reader taken (Ok done)
+piece_fed before after reader taken true takes some read no_fault ended = inr (record { takes = takes; read = read; ended = sym ended })
+piece_fed before after reader taken false takes some read no_fault ended =
+    record { takes = takes; some = some; read = read; goes_on = record { no_fault = no_fault; not_ended = sym ended } }
+
+-- a piece by which the reader met a fault
+pub piece_stops : (before after : SlotTold) (taken : List ℕ) (fault : CnfFault) (stop : ReadStop) → (takes : TakesPiece before after)
+    → OnFault fault (early_fault (taken ++ takes.bytes) ≡ Some fault) → StopsBy fault stop → StopsAtPiece before after taken stop
+piece_stops before after taken fault (NoFormula found) takes met by =
+    let meets : MeetsFault before after taken fault =
+    record { takes = takes; of_file = by.1; found = owed fault (early_fault (taken ++ takes.bytes) ≡ Some fault) by.1 met } in
+    rw by.0 meets
+piece_stops before after taken fault ReadFault takes met by = absurd by
+piece_stops before after taken fault NoMemory takes met by = takes
+
 -- what a call that keeps the slot keeps over two calls
-pub kept_twice : (start now next : InputsTold) → KeepsBegun start now → KeepsBegun now next → KeepsBegun start next
+kept_twice : (start now next : InputsTold) → KeepsBegun start now → KeepsBegun now next → KeepsBegun start next
 kept_twice start now next first second = record {
   held = second.held ∙ first.held;
   begun = second.begun ∙ first.begun;
@@ -53,131 +116,94 @@ reading_starts start reader read = record {
   kept = record { held = refl; begun = refl; begins = refl; later = omega arith; others = refl };
   taken = [];
   read = read;
-  no_fault = has_no_early_fault reader [] read;
-  not_ended = nothing_ended;
+  goes_on = nothing_goes_on reader read;
   turns_taken = omega arith;
   rest = sym (prepend_nothing (start.at Formula).left);
 }
 
 -- and after one read more
 pub reading_goes_on : (start now next : InputsTold) (reader after : ReaderState) (turns : ℕ) → (h : IsReading start now reader turns)
-    → KeepsBegun now next → TakesPiece now next after h.taken → IsReading start next after (turns + 1)
+    → KeepsBegun now next → ReadsOn (now.at Formula) (next.at Formula) after h.taken → IsReading start next after (turns + 1)
 reading_goes_on start now next reader after turns h kept t = record {
   kept = kept_twice start now next h.kept kept;
-  taken = h.taken ++ t.piece;
+  taken = h.taken ++ t.takes.bytes;
   read = t.read;
-  no_fault = t.no_fault;
-  not_ended = t.not_ended;
-  turns_taken = omega (arith, length-append h.taken t.piece, h.turns_taken, t.some);
-  rest = taken_on h.taken t.piece (start.at Formula).left (now.at Formula).left (next.at Formula).left h.rest t.left;
+  goes_on = t.goes_on;
+  turns_taken = omega (arith, length-append h.taken t.takes.bytes, h.turns_taken, t.some);
+  rest = taken_on h.taken t.takes.bytes (start.at Formula).left (now.at Formula).left (next.at Formula).left h.rest t.takes.left;
 }
 
 -- more turns than a formula may have bytes can't be taken
 pub turns_bounded : (start now : InputsTold) (reader : ReaderState) (turns : ℕ) → 268435457 ≤ turns → IsReading start now reader turns → ⊥
 turns_bounded start now reader turns over h =
-    omega (arith, h.turns_taken, has_read_short reader h.taken h.read h.not_ended)
+    omega (arith, h.turns_taken, has_read_short reader h.taken h.read h.goes_on.not_ended)
 
--- a read that ends the loop by a refusal
-pub pieces_refused : (start now next : InputsTold) (reader after : ReaderState) (turns : ℕ) (how : Ending) → (h : IsReading start now reader turns)
-    → ReadsPiece now next after h.taken (Err how) → ReadsPieces start next after (Err how)
-pieces_refused start now next reader after turns (NoFormula fault) h t = record {
-  taken = h.taken ++ t.piece;
-  rest = taken_on h.taken t.piece (start.at Formula).left (now.at Formula).left (next.at Formula).left h.rest t.left;
-  found = t.found;
+-- a read that stops the loop by a refusal
+pub pieces_stop : (start now next : InputsTold) (reader : ReaderState) (turns : ℕ) (stop : ReadStop) → (h : IsReading start now reader turns)
+    → StopsAtPiece (now.at Formula) (next.at Formula) h.taken stop
+    → StopsReading (start.at Formula).left (start.at Formula) (next.at Formula) stop
+pieces_stop start now next reader turns (NoFormula fault) h t = record {
+  takes = takes_more (start.at Formula).left (now.at Formula).left (next.at Formula).left h.taken t.takes.bytes h.goes_on t.takes.piece h.rest t.takes.left;
+  of_file = t.of_file;
+  found = inl t.found;
 }
-pieces_refused start now next reader after turns ReadFault h t = record {
+pieces_stop start now next reader turns ReadFault h t = record {
   taken = h.taken;
+  goes_on = h.goes_on;
   rest = h.rest ∙ ap (prepend_known h.taken) (sym t.left);
   rose = rose_since (start.at Formula).faults (now.at Formula).faults (next.at Formula).faults h.kept.later t.rose;
-  no_fault = h.no_fault;
-  not_ended = h.not_ended;
 }
-pieces_refused start now next reader after turns NoMemory h t = tt
-pieces_refused start now next reader after turns Satisfiable h t = absurd t
-pieces_refused start now next reader after turns Unsatisfiable h t = absurd t
-pieces_refused start now next reader after turns LeftOpen h t = absurd t
-pieces_refused start now next reader after turns Usage h t = absurd t
-pieces_refused start now next reader after turns LogFault h t = absurd t
-pieces_refused start now next reader after turns AnswerFault h t = absurd t
+pieces_stop start now next reader turns NoMemory h t =
+    takes_more (start.at Formula).left (now.at Formula).left (next.at Formula).left h.taken t.bytes h.goes_on t.piece h.rest t.left
 
--- a read that stops the loop
+-- a read that ends the loop
 pub pieces_end : (start now next : InputsTold) (reader after : ReaderState) (turns : ℕ) → (h : IsReading start now reader turns)
-    → TakesNothing now next after h.taken ⊎ TakesLast now next after h.taken → ReadsAll start next after
+    → ReadsNothing (now.at Formula) (next.at Formula) after h.taken ⊎ ReadsLast (now.at Formula) (next.at Formula) after h.taken
+    → ReadsAll (start.at Formula).left (next.at Formula).left after
 pieces_end start now next reader after turns h (inl t) = record {
-  taken = h.taken;
-  read = t.read;
-  rest = h.rest ∙ ap (prepend_known h.taken) (sym t.left);
+  takes = takes_judged (start.at Formula).left (next.at Formula).left h.taken h.goes_on (h.rest ∙ ap (prepend_known h.taken) (sym t.left));
+  read = rw (append-nil h.taken) (t.read);
   whole = inl t.at_end;
 }
 pieces_end start now next reader after turns h (inr t) = record {
-  taken = h.taken ++ t.piece;
+  takes = takes_more (start.at Formula).left (now.at Formula).left (next.at Formula).left h.taken t.takes.bytes h.goes_on t.takes.piece h.rest t.takes.left;
   read = t.read;
-  rest = taken_on h.taken t.piece (start.at Formula).left (now.at Formula).left (next.at Formula).left h.rest t.left;
   whole = inr t.ended;
 }
 
--- a refusal while pieces are read is a refusal of the file that was begun
-pub pieces_found : (file : List ℕ) (before start after : InputsTold) (reader : ReaderState) (how : Ending)
-    → (start.at Formula).left ≡ before.held Formula file → (before.at Formula).faults ≤ (start.at Formula).faults
-    → ReadsPieces start after reader (Err how) → Finds file before after (Err how)
-pieces_found file before start after reader (NoFormula fault) left later r = record { taken = r.taken; rest = sym left ∙ r.rest; found = inl r.found }
-pieces_found file before start after reader ReadFault left later r = record {
-  taken = r.taken;
-  rest = sym left ∙ r.rest;
-  rose = rose_since (before.at Formula).faults (start.at Formula).faults (after.at Formula).faults later r.rose;
-  no_fault = r.no_fault;
-  not_ended = r.not_ended;
-}
-pieces_found file before start after reader NoMemory left later r = tt
-pieces_found file before start after reader Satisfiable left later r = absurd r
-pieces_found file before start after reader Unsatisfiable left later r = absurd r
-pieces_found file before start after reader LeftOpen left later r = absurd r
-pieces_found file before start after reader Usage left later r = absurd r
-pieces_found file before start after reader LogFault left later r = absurd r
-pieces_found file before start after reader AnswerFault left later r = absurd r
-
 -- the name could not be begun
-pub unbegun_found : (file : List ℕ) (before now : InputsTold) (reader : ReaderState) → HasRead reader [] → (now.at Formula).left ≡ before.held Formula file
-    → Rose (before.at Formula).faults (now.at Formula).faults → IsReadFault file before now
-unbegun_found file before now reader read left rose = record {
+pub unbegun : (held : Option (List ℕ)) (before now : SlotTold) (reader : ReaderState) → HasRead reader [] → now.left ≡ held
+    → Rose before.faults now.faults → StopsReading held before now ReadFault
+unbegun held before now reader read left rose = record {
   taken = [];
-  rest = sym left ∙ sym (prepend_nothing (now.at Formula).left);
+  goes_on = nothing_goes_on reader read;
+  rest = sym left ∙ sym (prepend_nothing now.left);
   rose = rose;
-  no_fault = has_no_early_fault reader [] read;
-  not_ended = nothing_ended;
 }
+
+-- memory was refused before the first read
+pub unread : (held : Option (List ℕ)) (before now : SlotTold) (reader : ReaderState) → HasRead reader [] → now.left ≡ held
+    → StopsReading held before now NoMemory
+unread held before now reader read left =
+    takes_judged held now.left [] (nothing_goes_on reader read) (sym left ∙ sym (prepend_nothing now.left))
 
 -- the whole file is this formula
-pub all_read : (file : List ℕ) (before start after : InputsTold) (reader : ReaderState) (cnf : Cnf) → (start.at Formula).left ≡ before.held Formula file
-    → ReadsAll start after reader → ((bytes : List ℕ) → HasRead reader bytes → formula_of bytes ≡ Ok cnf) → IsRead file before after cnf
-all_read file before start after reader cnf left all ends = record {
-  taken = all.taken;
-  rest = sym left ∙ all.rest;
-  whole = all.whole;
-  formula = ends all.taken all.read;
-}
+pub all_read : (held : Option (List ℕ)) (start after : SlotTold) (reader : ReaderState) (cnf : Cnf) → start.left ≡ held
+    → ReadsAll start.left after.left reader → ((bytes : List ℕ) → HasRead reader bytes → formula_of bytes ≡ Ok cnf) → IsRead held after.left cnf
+all_read held start after reader cnf left all ends =
+    let found : IsRead start.left after.left cnf = record { takes = all.takes; whole = all.whole; formula = ends (bytes_taken all.takes) all.read } in
+    rw (sym left) found
 
 -- the whole file is no formula
-pub all_refused : (file : List ℕ) (before start after : InputsTold) (reader : ReaderState) (fault : CnfFault)
-    → (start.at Formula).left ≡ before.held Formula file → ReadsAll start after reader
-    → ((bytes : List ℕ) → HasRead reader bytes → formula_of bytes ≡ Err fault) → IsNoFormula file before after fault
-all_refused file before start after reader fault left all ends = record {
-  taken = all.taken;
-  rest = sym left ∙ all.rest;
-  found = inr (all.whole, ends all.taken all.read);
-}
-
--- the same by the ending of the fault
-pub end_refused : (file : List ℕ) (before start after : InputsTold) (reader : ReaderState) (fault : CnfFault)
-    → (start.at Formula).left ≡ before.held Formula file → ReadsAll start after reader
-    → ((bytes : List ℕ) → HasRead reader bytes → Ends bytes (Err fault)) → Finds file before after (Err (refusal_of fault))
-end_refused file before start after reader (cnf.NoHeader line) left all ends = all_refused file before start after reader (cnf.NoHeader line) left all ends
-end_refused file before start after reader (cnf.BadHeader line) left all ends = all_refused file before start after reader (cnf.BadHeader line) left all ends
-end_refused file before start after reader (cnf.BadNumber line) left all ends = all_refused file before start after reader (cnf.BadNumber line) left all ends
-end_refused file before start after reader (cnf.VariableAbove line) left all ends = all_refused file before start after reader (cnf.VariableAbove line) left all ends
-end_refused file before start after reader (cnf.TooManyClauses line) left all ends = all_refused file before start after reader (cnf.TooManyClauses line) left all ends
-end_refused file before start after reader (cnf.TooFewClauses line) left all ends = all_refused file before start after reader (cnf.TooFewClauses line) left all ends
-end_refused file before start after reader (cnf.Unclosed line) left all ends = all_refused file before start after reader (cnf.Unclosed line) left all ends
-end_refused file before start after reader (cnf.OverLimit which line) left all ends = all_refused file before start after reader (cnf.OverLimit which line) left all ends
-end_refused file before start after reader (cnf.TooLong line) left all ends = all_refused file before start after reader (cnf.TooLong line) left all ends
-end_refused file before start after reader cnf.NoMemory left all ends = tt
+pub all_stop : (held : Option (List ℕ)) (before start after : SlotTold) (reader : ReaderState) (fault : CnfFault) (stop : ReadStop) → start.left ≡ held
+    → ReadsAll start.left after.left reader → ((bytes : List ℕ) → HasRead reader bytes → Ends bytes (Err fault)) → StopsBy fault stop
+    → StopsReading held before after stop
+all_stop held before start after reader fault (NoFormula found) left all ends by =
+    let gives : StopsReading start.left before after (NoFormula fault) = record {
+      takes = all.takes;
+      of_file = by.1;
+      found = inr (all.whole, owed fault (formula_of (bytes_taken all.takes) ≡ Err fault) by.1 (ends (bytes_taken all.takes) all.read));
+    } in
+    rw (by.0, sym left) gives
+all_stop held before start after reader fault ReadFault left all ends by = absurd by
+all_stop held before start after reader fault NoMemory left all ends by = rw (sym left) all.takes

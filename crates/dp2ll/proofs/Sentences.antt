@@ -1,138 +1,225 @@
--- The sentences of the headline that speak of the file's bytes.
-use Rattle.std.proofs.Common.{◌≡◌, ◌⊎◌, ℕ, List, inl, inr, ◌∙◌, ap, arith, refl, Option, Some, None, Ok}
+-- The sentences of a run, from its record.
+use Rattle.std.proofs.Common.{◌≡◌, ◌⊎◌, ℕ, List, Bool, inl, inr, sym, subst, ◌∙◌, ap, arith, refl, Option, Some, None}
+use Rattle.lit_base.specs.declared.lesson.Lesson.{Lesson}
 use Rattle.desk_io.specs.Told.{PortTold}
 use Rattle.desk_io.specs.declared.Slot.TheVariants.{Formula}
 use Rattle.desk_io.specs.declared.Port.TheVariants.{Complaint}
-use Rattle.lit_base.specs.Cnf.{Cnf}
-use Rattle.cnf_text.specs.declared.fault.CnfFault.{CnfFault}
-use Rattle.cnf_text.specs.Reading.{formula_of}
 use Rattle.dp2ll.specs.declared.words.Job.{Job}
 use Rattle.dp2ll.specs.declared.words.Job.TheVariants.{Solve}
+use Rattle.dp2ll.specs.declared.verdict.Verdict.TheVariants.{Satisfied, Refuted, Undecided}
+use Rattle.dp2ll.specs.declared.ending.ReadStop.TheVariants as reading
+use Rattle.dp2ll.specs.declared.ending.WriteStop.TheVariants as writing
 use Rattle.dp2ll.specs.declared.ending.Ending.{Ending}
-use Rattle.dp2ll.specs.declared.ending.Ending.TheVariants.{Satisfiable, Unsatisfiable, LeftOpen, Usage, NoFormula, ReadFault, LogFault, AnswerFault, NoMemory}
-use Rattle.dp2ll.specs.Ending.{status_of}
-use Rattle.dp2ll.specs.Reading.{IsRead}
-use Rattle.dp2ll.specs.Complaint.{Complains}
-use Rattle.dp2ll.specs.Serving.{Desk, SolveCause, RefuseCause, Solves, Serves}
-use Rattle.dp2ll.specs.Headline.{Run, Headline, desk_before, desk_after, OnSolve, PrintsModel, PrintsProof, IsModel, IsRefutation, ReadsFile, RefusesFile}
-use Rattle.dp2ll.proofs.Complete.{whole_read}
+use Rattle.dp2ll.specs.declared.ending.Ending.TheVariants.{Answered, Usage, Unread, Unwritten, NoMemory}
+use Rattle.dp2ll.specs.Ending.{status_of, complaint_of}
+use Rattle.dp2ll.specs.Complaint.{Tells, TellsFront, Complains}
+use Rattle.dp2ll.specs.Serving.{Desk, RefuseCause, Solves, Serves}
+use Rattle.dp2ll.specs.Headline.{Run, Headline, desk_before, desk_after, OnSolve, EndsBy, IsFaulty, IsSolved, PrintsModel, PrintsProof, IsModel, IsRefutation, IsNeverUnknown, ReadsFile, TellsPart, IsRefusal, IsSilent, KeepsPorts, Sentences}
+use Rattle.dp2ll.proofs.Statuses.{at_ten, at_twenty, at_seven, at_one, at_two, at_three, at_four, never_zero}
+use Rattle.dp2ll.proofs.Whole.{read_told}
+use Rattle.dp2ll.proofs.Ports.{served_texts, silent_run, unlogged}
+use Rattle.dp2ll.proofs.Complete.{complete}
 
--- where the file is told, what was read of it is its formula
-read_told : (run : Run) (file bytes : List ℕ) (cnf : Cnf) → run.inputs_before.held Formula file ≡ Some bytes
-    → IsRead file run.inputs_before run.inputs_after cnf → formula_of bytes ≡ Ok cnf
-read_told run file bytes cnf told read =
-    whole_read bytes read.taken (run.inputs_before.held Formula file) (run.inputs_after.at Formula).left told read.rest read.whole ∙ read.formula
+-- a status that isn't 5 is the ending's own, and its complaint was told
+told_own : (complaint : Option (List ℕ)) (own status wanted : ℕ) (before after : PortTold) → Complains complaint own before after status
+    → status ≡ wanted → (wanted ≡ 5 → ⊥) → (own ≡ wanted) × Tells complaint before after
+told_own complaint own status wanted before after (inl (is, tells)) same other = (sym is ∙ same, tells)
+told_own complaint own status wanted before after (inr (five, front)) same other = absurd (other (sym same ∙ five))
 
--- a run without a job doesn't end with this status
-idle_status : (how : Ending) → RefuseCause how → (status_of how ≡ 1) ⊎ (status_of how ≡ 5)
-idle_status Satisfiable cause = absurd cause
-idle_status Unsatisfiable cause = absurd cause
-idle_status LeftOpen cause = absurd cause
-idle_status Usage cause = inl refl
-idle_status (NoFormula fault) cause = absurd cause
-idle_status ReadFault cause = absurd cause
-idle_status LogFault cause = absurd cause
-idle_status AnswerFault cause = absurd cause
-idle_status NoMemory cause = inr refl
+-- the same of a run
+own_of : (run : Run) (h : Headline run) (wanted : ℕ) → run.status ≡ wanted → (wanted ≡ 5 → ⊥)
+    → (status_of h.how ≡ wanted) × Tells (complaint_of h.how) (run.before.at Complaint) (run.after.at Complaint)
+own_of run h wanted same other =
+    told_own (complaint_of h.how) (status_of h.how) run.status wanted (run.before.at Complaint) (run.after.at Complaint) h.complains same other
 
--- neither 1 nor 5 is this status
-other_status : (status wanted : ℕ) → (status ≡ 1) ⊎ (status ≡ 5) → status ≡ wanted → (wanted ≡ 1 → ⊥) → (wanted ≡ 5 → ⊥) → ⊥
-other_status status wanted (inl one) same not_one not_five = not_one (cc)
-other_status status wanted (inr five) same not_one not_five = not_five (cc)
+-- a run that was not refused before anything was begun is a `solve`
+solve_of : (job : Option Job) (before after : Desk) (how : Ending) → Serves job before after how → (RefuseCause how → ⊥)
+    → OnSolve job (λ file log. Solves file log before after how)
+solve_of None before after how refuses other = absurd (other refuses.cause)
+solve_of (Some (Solve file log)) before after how (inl solves) other = solves
+solve_of (Some (Solve file log)) before after how (inr gives_up) other = absurd (other (rw gives_up.cause tt))
 
--- the model that `solve` prints at status 10
-solve_model : (run : Run) (file : List ℕ) (log : Option (List ℕ)) (how : Ending) → status_of how ≡ 10
-    → SolveCause file log (desk_before run) (desk_after run) how → PrintsModel run file
-solve_model run file log Satisfiable ten cause = record {
-  cnf = cause.cnf;
-  model = cause.answer.model;
-  satisfied = cause.answer.answered.backed;
-  printed = cause.answer.answered.written;
-  told = λ bytes told. read_told run file bytes cause.cnf told cause.read;
+-- a run that ended like this ended by its cause
+ends_by : (run : Run) (h : Headline run) (how : Ending) → h.how ≡ how → Tells (complaint_of h.how) (run.before.at Complaint) (run.after.at Complaint)
+    → (RefuseCause how → ⊥) → EndsBy run how
+ends_by run h how same tells other = record {
+  solves = solve_of run.job (desk_before run) (desk_after run) how
+      (subst (λ (e : Ending). Serves run.job (desk_before run) (desk_after run) e) same h.serves) other;
+  complaint = subst (λ (e : Ending). Tells (complaint_of e) (run.before.at Complaint) (run.after.at Complaint)) same tells;
 }
-solve_model run file log Unsatisfiable ten cause = absurd (omega arith)
-solve_model run file log LeftOpen ten cause = absurd (omega arith)
-solve_model run file log Usage ten cause = absurd (omega arith)
-solve_model run file log (NoFormula fault) ten cause = absurd (omega arith)
-solve_model run file log ReadFault ten cause = absurd (omega arith)
-solve_model run file log LogFault ten cause = absurd (omega arith)
-solve_model run file log AnswerFault ten cause = absurd (omega arith)
-solve_model run file log NoMemory ten cause = absurd (omega arith)
 
--- the model that a run prints at status 10
-served_model : (job : Option Job) (run : Run) (how : Ending) → status_of how ≡ 10 → Serves job (desk_before run) (desk_after run) how
-    → OnSolve job (λ file log. PrintsModel run file)
-served_model None run how ten refuses = other_status (status_of how) 10 (idle_status how refuses.cause) ten (λ e. omega arith) (λ e. omega arith)
-served_model (Some (Solve file log)) run how ten (inl solves) = solve_model run file log how ten solves.cause
-served_model (Some (Solve file log)) run how ten (inr gives_up) =
-    let five : status_of NoMemory ≡ 10 = rw gives_up.cause at ten in absurd (omega arith)
+-- what holds of a `solve` that gives this
+on_solve : (job : Option Job) (P Q : List ℕ → Option (List ℕ) → Type 0) → ((file : List ℕ) (log : Option (List ℕ)) → P file log → Q file log)
+    → OnSolve job P → OnSolve job Q
+on_solve None P Q gives holds = holds
+on_solve (Some (Solve file log)) P Q gives holds = gives file log holds
 
--- the printed model satisfies the formula
-pub model_of_run : (run : Run) → Headline run → IsModel run
-model_of_run run h ten = served_model run.job run h.how (cc) h.serves
+-- words that end with a usage fault are no command line
+usage_job : (job : Option Job) (before after : Desk) → Serves job before after Usage → job ≡ None
+usage_job None before after serves = refl
+usage_job (Some (Solve file log)) before after (inl solves) = absurd solves.cause
+usage_job (Some (Solve file log)) before after (inr gives_up) = let never : Usage ≡ NoMemory = gives_up.cause in cc
 
--- the proof of `solve` at status 20
-solve_proof : (run : Run) (file : List ℕ) (log : Option (List ℕ)) (how : Ending) → status_of how ≡ 20
-    → SolveCause file log (desk_before run) (desk_after run) how → PrintsProof run file log
-solve_proof run file log Satisfiable twenty cause = absurd (omega arith)
-solve_proof run file log Unsatisfiable twenty cause = record {
-  cnf = cause.cnf;
-  lesson = cause.answer.lesson;
-  checked = cause.answer.answered.backed.0;
-  no_model = cause.answer.answered.backed.1;
-  logged = cause.answer.answered.logged;
-  told = λ bytes told. read_told run file bytes cause.cnf told cause.read;
+-- the words of a run with status 1
+faulty_of : (run : Run) → Headline run → run.status ≡ 1 → IsFaulty run
+faulty_of run h one =
+    let own = own_of run h 1 one (λ e. omega arith) in
+    let same = at_one h.how own.0 in
+    record {
+      no_job = usage_job run.job (desk_before run) (desk_after run)
+          (subst (λ (e : Ending). Serves run.job (desk_before run) (desk_after run) e) same h.serves);
+      complaint = subst (λ (e : Ending). Tells (complaint_of e) (run.before.at Complaint) (run.after.at Complaint)) same own.1;
+    }
+
+-- a run that begins nothing ends with status 1 or 5
+refuse_status : (how : Ending) (status : ℕ) (before after : PortTold) → RefuseCause how → Complains (complaint_of how) (status_of how) before after status
+    → (status ≡ 1) ⊎ (status ≡ 5)
+refuse_status how status before after cause (inr (five, front)) = inr five
+refuse_status (Answered verdict) status before after cause (inl told) = absurd cause
+refuse_status Usage status before after cause (inl told) = inl told.0
+refuse_status (Unread stop) status before after cause (inl told) = absurd cause
+refuse_status (Unwritten stop) status before after cause (inl told) = absurd cause
+refuse_status NoMemory status before after cause (inl told) = inr told.0
+
+-- words that are no command line end with status 1 or 5
+refused_words : (run : Run) → Headline run → run.job ≡ None → (run.status ≡ 1) ⊎ (run.status ≡ 5)
+refused_words run h none =
+    refuse_status h.how run.status (run.before.at Complaint) (run.after.at Complaint) (rw none at h.serves).cause h.complains
+
+-- the status is that of an ending
+some_ending : (complaint : Option (List ℕ)) (how : Ending) (status : ℕ) (before after : PortTold) → Complains complaint (status_of how) before after status
+    → (ending : Ending) × (status ≡ status_of ending)
+some_ending complaint how status before after (inl (own, tells)) = (how, own)
+some_ending complaint how status before after (inr (five, front)) = (NoMemory, five)
+
+-- statuses 10, 20 and 7 come by their causes
+solved_of : (run : Run) → Headline run → IsSolved run
+solved_of run h =
+    let some = some_ending (complaint_of h.how) h.how run.status (run.before.at Complaint) (run.after.at Complaint) h.complains in
+    record {
+      satisfiable = λ ten.
+          let own = own_of run h 10 ten (λ e. omega arith) in
+          let at = at_ten h.how own.0 in
+          (at.0, ends_by run h (Answered (Satisfied at.0)) at.1 own.1 (λ refused. refused));
+      unsatisfiable = λ twenty.
+          let own = own_of run h 20 twenty (λ e. omega arith) in
+          let at = at_twenty h.how own.0 in
+          (at.0, ends_by run h (Answered (Refuted at.0)) at.1 own.1 (λ refused. refused));
+      left_open = λ seven.
+          let own = own_of run h 7 seven (λ e. omega arith) in
+          ends_by run h (Answered Undecided) (at_seven h.how own.0) own.1 (λ refused. refused);
+      ending = some.0;
+      status = some.1;
+    }
+
+-- the model that a run prints
+model_of_solve : (run : Run) (model : List Bool) (file : List ℕ) (log : Option (List ℕ))
+    → Solves file log (desk_before run) (desk_after run) (Answered (Satisfied model)) → PrintsModel run file
+model_of_solve run model file log solves = record {
+  cnf = solves.cause.cnf;
+  model = model;
+  satisfied = solves.cause.answered.backed;
+  printed = solves.cause.answered.texts.answered;
+  told = λ bytes told. read_told bytes (run.inputs_before.held Formula file) (run.inputs_after.at Formula).left solves.cause.cnf told solves.cause.read;
 }
-solve_proof run file log LeftOpen twenty cause = absurd (omega arith)
-solve_proof run file log Usage twenty cause = absurd (omega arith)
-solve_proof run file log (NoFormula fault) twenty cause = absurd (omega arith)
-solve_proof run file log ReadFault twenty cause = absurd (omega arith)
-solve_proof run file log LogFault twenty cause = absurd (omega arith)
-solve_proof run file log AnswerFault twenty cause = absurd (omega arith)
-solve_proof run file log NoMemory twenty cause = absurd (omega arith)
 
--- the proof of a run at status 20
-served_proof : (job : Option Job) (run : Run) (how : Ending) → status_of how ≡ 20 → Serves job (desk_before run) (desk_after run) how
-    → OnSolve job (λ file log. PrintsProof run file log)
-served_proof None run how twenty refuses = other_status (status_of how) 20 (idle_status how refuses.cause) twenty (λ e. omega arith) (λ e. omega arith)
-served_proof (Some (Solve file log)) run how twenty (inl solves) = solve_proof run file log how twenty solves.cause
-served_proof (Some (Solve file log)) run how twenty (inr gives_up) =
-    let five : status_of NoMemory ≡ 20 = rw gives_up.cause at twenty in absurd (omega arith)
+-- a printed model satisfies the formula
+model_of : (run : Run) → IsSolved run → IsModel run
+model_of run solved ten =
+    let ends = solved.satisfiable ten in
+    on_solve run.job (λ file log. Solves file log (desk_before run) (desk_after run) (Answered (Satisfied ends.0))) (λ file log. PrintsModel run file)
+    (model_of_solve run ends.0) ends.1.solves
+
+-- the proof that a run writes
+proof_of_solve : (run : Run) (lesson : Lesson) (file : List ℕ) (log : Option (List ℕ))
+    → Solves file log (desk_before run) (desk_after run) (Answered (Refuted lesson)) → PrintsProof run file log
+proof_of_solve run lesson file log solves = record {
+  cnf = solves.cause.cnf;
+  refuted = solves.cause.answered.backed;
+  logged = solves.cause.answered.texts.logged;
+  told = λ bytes told. read_told bytes (run.inputs_before.held Formula file) (run.inputs_after.at Formula).left solves.cause.cnf told solves.cause.read;
+}
 
 -- the proof of a refutation checks
-pub refutation_of_run : (run : Run) → Headline run → IsRefutation run
-refutation_of_run run h twenty = served_proof run.job run h.how (cc) h.serves
+refutation_of : (run : Run) → IsSolved run → IsRefutation run
+refutation_of run solved twenty =
+    let ends = solved.unsatisfiable twenty in
+    on_solve run.job (λ file log. Solves file log (desk_before run) (desk_after run) (Answered (Refuted ends.0))) (λ file log. PrintsProof run file log)
+    (proof_of_solve run ends.0) ends.1.solves
 
--- a job that was refused by a fault of its file is a `solve`
-served_file : (job : Option Job) (before after : Desk) (fault : CnfFault) → Serves job before after (NoFormula fault)
-    → OnSolve job (λ file log. Solves file log before after (NoFormula fault))
-served_file None before after fault refuses = absurd refuses.cause
-served_file (Some (Solve file log)) before after fault (inl solves) = solves
-served_file (Some (Solve file log)) before after fault (inr gives_up) = let never : NoFormula fault ≡ NoMemory = gives_up.cause in cc
+-- no run ends with status 0
+never_unknown : (run : Run) → Headline run → IsNeverUnknown run
+never_unknown run h zero = never_zero h.how (own_of run h 0 zero (λ e. omega arith)).0
 
--- status 2 by how the run ended
-refused_by : (run : Run) (how : Ending) → run.status ≡ status_of how → Serves run.job (desk_before run) (desk_after run) how
-    → Complains (run.before.at Complaint) (run.after.at Complaint) how → run.status ≡ 2 → RefusesFile run
-refused_by run Satisfiable status serves complaint two = absurd (omega arith)
-refused_by run Unsatisfiable status serves complaint two = absurd (omega arith)
-refused_by run LeftOpen status serves complaint two = absurd (omega arith)
-refused_by run Usage status serves complaint two = absurd (omega arith)
-refused_by run (NoFormula fault) status serves complaint two =
-    record { fault = fault; solves = served_file run.job (desk_before run) (desk_after run) fault serves; complaint = complaint }
-refused_by run ReadFault status serves complaint two = absurd (omega arith)
-refused_by run LogFault status serves complaint two = absurd (omega arith)
-refused_by run AnswerFault status serves complaint two = absurd (omega arith)
-refused_by run NoMemory status serves complaint two = absurd (omega arith)
+-- the log or the answer that failed
+unwritten_of : (run : Run) (h : Headline run) → Tells (complaint_of h.how) (run.before.at Complaint) (run.after.at Complaint)
+    → (h.how ≡ Unwritten writing.LogFault) ⊎ (h.how ≡ Unwritten writing.AnswerFault)
+    → EndsBy run (Unwritten writing.LogFault) ⊎ EndsBy run (Unwritten writing.AnswerFault)
+unwritten_of run h tells (inl same) = inl (ends_by run h (Unwritten writing.LogFault) same tells (λ refused. refused))
+unwritten_of run h tells (inr same) = inr (ends_by run h (Unwritten writing.AnswerFault) same tells (λ refused. refused))
 
--- status 2 names the fault of the file
-pub refused_of_run : (run : Run) → Headline run → run.status ≡ 2 → RefusesFile run
-refused_of_run run h two = refused_by run h.how h.status h.serves h.complaint two
+-- what a complaint leaves on its port is that complaint, or a front of it
+told_part : (complaint : Option (List ℕ)) (own status : ℕ) (before after : PortTold) → Complains complaint own before after status
+    → Tells complaint before after ⊎ TellsFront complaint before after
+told_part complaint own status before after (inl (is, tells)) = inl tells
+told_part complaint own status before after (inr (five, front)) = inr front
+
+-- what stands on the complaint port is of an ending whose cause holds
+tells_part : (run : Run) → Headline run → TellsPart run
+tells_part run h = record {
+  how = h.how;
+  cause = h.serves;
+  complaint = told_part (complaint_of h.how) (status_of h.how) run.status (run.before.at Complaint) (run.after.at Complaint) h.complains;
+}
 
 -- only the job's file is begun
-served_inputs : (job : Option Job) (before after : Desk) (how : Ending) → Serves job before after how → ReadsFile job before.inputs after.inputs
-served_inputs None before after how refuses = ap (λ (d : Desk). d.inputs) refuses.untouched
-served_inputs (Some (Solve file log)) before after how (inl solves) = inl solves.begun
-served_inputs (Some (Solve file log)) before after how (inr gives_up) = inr (ap (λ (d : Desk). d.inputs) gives_up.untouched)
+inputs_of : (job : Option Job) (before after : Desk) (how : Ending) → Serves job before after how → ReadsFile job before.inputs after.inputs
+inputs_of None before after how refuses = ap (λ (d : Desk). d.inputs) refuses.untouched
+inputs_of (Some (Solve file log)) before after how (inl solves) = inl solves.begun
+inputs_of (Some (Solve file log)) before after how (inr gives_up) = inr (ap (λ (d : Desk). d.inputs) gives_up.untouched)
 
-pub inputs_of_run : (run : Run) → Headline run → ReadsFile run.job run.inputs_before run.inputs_after
-inputs_of_run run h = served_inputs run.job (desk_before run) (desk_after run) h.how h.serves
+-- statuses 2 to 5 come by their causes
+refusal_of : (run : Run) → Headline run → IsRefusal run
+refusal_of run h = record {
+  no_formula = λ two.
+      let own = own_of run h 2 two (λ e. omega arith) in
+      let at = at_two h.how own.0 in
+      (at.0, ends_by run h (Unread (reading.NoFormula at.0)) at.1 own.1 (λ refused. refused));
+  unread = λ three.
+      let own = own_of run h 3 three (λ e. omega arith) in
+      ends_by run h (Unread reading.ReadFault) (at_three h.how own.0) own.1 (λ refused. refused);
+  unwritten = λ four. let own = own_of run h 4 four (λ e. omega arith) in unwritten_of run h own.1 (at_four h.how own.0);
+  no_memory = λ five. tells_part run h;
+  inputs = inputs_of run.job (desk_before run) (desk_after run) h.how h.serves;
+}
+
+-- a silent status is the ending's own
+silent_own : (complaint : Option (List ℕ)) (own status : ℕ) (before after : PortTold) → Complains complaint own before after status
+    → IsSilent status → IsSilent own
+silent_own complaint own status before after (inl (is, tells)) silent = rw is at silent
+silent_own complaint own status before after (inr (five, front)) silent = let never = rw five at silent in absurd (grind arith)
+
+-- what stands on the ports
+ports_of : (run : Run) → Headline run → KeepsPorts run
+ports_of run h =
+    let texts = served_texts run.job (desk_before run) (desk_after run) h.how h.serves in
+    record {
+      texts = texts;
+      silent = λ silent. silent_run run.job (desk_before run) (desk_after run) h.how
+          (silent_own (complaint_of h.how) (status_of h.how) run.status (run.before.at Complaint) (run.after.at Complaint) h.complains silent) h.serves;
+      no_log = λ none. unlogged run.job (desk_before run) (desk_after run) none texts;
+      complaint = tells_part run h;
+    }
+
+-- all sentences of a run
+pub sentences_of : (run : Run) → Headline run → Sentences run
+sentences_of run h = let solved = solved_of run h in record {
+  words = record { faulty = faulty_of run h; refused = refused_words run h };
+  solved = solved;
+  model = model_of run solved;
+  refuted = refutation_of run solved;
+  unknown = never_unknown run h;
+  refused = refusal_of run h;
+  ports = ports_of run h;
+  complete = complete run h;
+}

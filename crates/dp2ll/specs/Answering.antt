@@ -1,18 +1,15 @@
 -- Deciding a formula, and writing its log and its answer.
-use Rattle.std.specs.Prelude.{◌≡◌, ◌⊎◌, ℕ, ◌≤◌, List, Bool, Option, Some, None, Result, Ok, Err}
+use Rattle.std.specs.Prelude.{◌≡◌, ◌⊎◌, ℕ, List, Option, Result, Ok, Err}
 use Rattle.std.specs.Io.KnownBytes.{append_known}
 use Rattle.lit_base.specs.Cnf.{Cnf}
-use Rattle.lit_base.specs.Truth.{Satisfies}
-use Rattle.lit_base.specs.Judgement.{Checks, HasNoModel}
-use Rattle.lit_base.specs.declared.lesson.Lesson.{Lesson}
 use Rattle.desk_io.specs.Told.{PortTold, OutputsTold, Rose}
 use Rattle.desk_io.specs.Outputs.{GrowsByFront}
 use Rattle.desk_io.specs.declared.Port.TheVariants.{Answer, Complaint}
 use Rattle.dp2ll.specs.declared.verdict.Verdict.{Verdict}
 use Rattle.dp2ll.specs.declared.verdict.Verdict.TheVariants.{Satisfied, Refuted, Undecided}
-use Rattle.dp2ll.specs.declared.ending.Ending.{Ending}
-use Rattle.dp2ll.specs.declared.ending.Ending.TheVariants.{Satisfiable, Unsatisfiable, LeftOpen, Usage, NoFormula, ReadFault, LogFault, AnswerFault, NoMemory}
-use Rattle.dp2ll.specs.Outcome.{verdict_of, proof_of, log_text, answer_text}
+use Rattle.dp2ll.specs.declared.ending.WriteStop.{WriteStop}
+use Rattle.dp2ll.specs.declared.ending.WriteStop.TheVariants.{LogFault, AnswerFault, NoMemory}
+use Rattle.dp2ll.specs.Outcome.{verdict_of, log_text, answer_text, IsBacked, IsDecided}
 use Rattle.dp2ll.specs.Logging.{LogTold, log_told, LogsWhole, LogsFault, LogsPart}
 
 -- what the outputs tell but for the complaint port
@@ -28,95 +25,75 @@ page_of outputs = record { answer = outputs.at Answer; log = log_told outputs }
 abbrev pub KeepsComplaint : OutputsTold → OutputsTold → Type 0
 KeepsComplaint before after = after.at Complaint ≡ before.at Complaint
 
--- the verdict is backed: a model satisfies the formula, and the proof of a refutation checks, so that the formula has no model
-abbrev pub IsBacked : Cnf → Verdict → Type 0
-IsBacked cnf (Satisfied model) = Satisfies model cnf
-IsBacked cnf (Refuted lesson) = Checks cnf (proof_of cnf (Refuted lesson)) × HasNoModel cnf
-IsBacked cnf Undecided = Unit {0}
+-- the log holds this text where one is named, and the answer port grew by that text
+pub record WritesBoth (log : Option (List ℕ)) (log_bytes answer_bytes : List ℕ) (before after : Page) : Type 0 where
+  pub logged : LogsWhole log log_bytes before.log after.log
+  pub answered : after.answer.written ≡ append_known before.answer.written answer_bytes
 
--- propagation gives this verdict, and log and answer hold its texts
+-- a call on the log port failed, and the answer port was not touched
+pub record IsUnlogged (log : Option (List ℕ)) (log_bytes : List ℕ) (before after : Page) : Type 0 where
+  pub unanswered : after.answer ≡ before.answer
+  pub failed : LogsFault log log_bytes before.log after.log
+
+-- the log was cut short or is not there, and the answer port was not touched
+pub record IsCutInLog (log : Option (List ℕ)) (log_bytes : List ℕ) (before after : Page) : Type 0 where
+  pub unanswered : after.answer ≡ before.answer
+  pub part : LogsPart log log_bytes before.log after.log
+
+-- the log holds its whole text, and the answer port grew by a front of the answer
+pub record IsCutInAnswer (log : Option (List ℕ)) (log_bytes answer_bytes : List ℕ) (before after : Page) : Type 0 where
+  pub logged : LogsWhole log log_bytes before.log after.log
+  pub front : GrowsByFront answer_bytes before.answer.written after.answer.written
+
+-- a call on the answer port failed, behind a whole log
+pub record IsUnanswered (log : Option (List ℕ)) (log_bytes answer_bytes : List ℕ) (before after : Page) : Type 0 where
+  pub part : IsCutInAnswer log log_bytes answer_bytes before after
+  pub rose : Rose before.answer.faults after.answer.faults
+
+-- what each way to stop while two texts are written leaves
+abbrev pub CutsTexts : Option (List ℕ) → List ℕ → List ℕ → Page → Page → WriteStop → Type 0
+CutsTexts log log_bytes answer_bytes before after LogFault = IsUnlogged log log_bytes before after
+CutsTexts log log_bytes answer_bytes before after AnswerFault = IsUnanswered log log_bytes answer_bytes before after
+CutsTexts log log_bytes answer_bytes before after NoMemory =
+    IsCutInLog log log_bytes before after ⊎ IsCutInAnswer log log_bytes answer_bytes before after
+
+-- what writing a log and an answer leaves, by how it ended
+abbrev pub WritesTexts : Option (List ℕ) → List ℕ → List ℕ → Page → Page → Result (Unit {0}) WriteStop → Type 0
+WritesTexts log log_bytes answer_bytes before after (Ok done) = WritesBoth log log_bytes answer_bytes before after
+WritesTexts log log_bytes answer_bytes before after (Err stop) = CutsTexts log log_bytes answer_bytes before after stop
+
+-- log and answer hold exactly the texts of a formula with this verdict; nothing was written where it is left open
+abbrev pub HoldsTexts : Cnf → Option (List ℕ) → Verdict → Page → Page → Type 0
+HoldsTexts cnf log (Satisfied model) before after = WritesBoth log (log_text cnf) (answer_text (Satisfied model)) before after
+HoldsTexts cnf log (Refuted lesson) before after = WritesBoth log (log_text cnf) (answer_text (Refuted lesson)) before after
+HoldsTexts cnf log Undecided before after = after ≡ before
+
+-- the texts of a decided formula were cut short
+pub record CutsDecided (cnf : Cnf) (log : Option (List ℕ)) (verdict : Verdict) (before after : Page) (stop : WriteStop) : Type 0 where
+  pub decided : IsDecided verdict
+  pub cut : CutsTexts log (log_text cnf) (answer_text verdict) before after stop
+
+-- memory was refused before anything was written
+pub record WritesNothing (before after : Page) (stop : WriteStop) : Type 0 where
+  pub memory : stop ≡ NoMemory
+  pub untouched : after ≡ before
+
+-- what each way to stop while a verdict is written leaves
+abbrev pub StopsWriting : Cnf → Option (List ℕ) → Verdict → Page → Page → WriteStop → Type 0
+StopsWriting cnf log verdict before after stop = WritesNothing before after stop ⊎ CutsDecided cnf log verdict before after stop
+
+-- what writing the texts of a verdict leaves, by how it ended
+abbrev pub WritesVerdict : Cnf → Option (List ℕ) → Verdict → Page → Page → Result (Unit {0}) WriteStop → Type 0
+WritesVerdict cnf log verdict before after (Ok done) = HoldsTexts cnf log verdict before after
+WritesVerdict cnf log verdict before after (Err stop) = StopsWriting cnf log verdict before after stop
+
+-- propagation gives this verdict, which is backed, and log and answer hold its texts
 pub record IsAnswered (cnf : Cnf) (log : Option (List ℕ)) (before after : Page) (verdict : Verdict) : Type 0 where
   pub outcome : verdict_of cnf ≡ verdict
   pub backed : IsBacked cnf verdict
-  pub logged : LogsWhole log (log_text cnf verdict) before.log after.log
-  pub written : after.answer.written ≡ append_known before.answer.written (answer_text verdict)
+  pub texts : HoldsTexts cnf log verdict before after
 
--- propagation gives a model, and its answer is written
-pub record IsSatisfiable (cnf : Cnf) (log : Option (List ℕ)) (before after : Page) : Type 0 where
-  pub model : List Bool
-  pub answered : IsAnswered cnf log before after (Satisfied model)
-
--- propagation meets a conflict, and the proof that it gives and the answer are written
-pub record IsUnsatisfiable (cnf : Cnf) (log : Option (List ℕ)) (before after : Page) : Type 0 where
-  pub lesson : Lesson
-  pub answered : IsAnswered cnf log before after (Refuted lesson)
-
--- propagation leaves a variable free, and nothing is written
-pub record IsLeftOpen (cnf : Cnf) (before after : Page) : Type 0 where
-  pub outcome : verdict_of cnf ≡ Undecided
-  pub untouched : after ≡ before
-
--- the verdict is a model or a refutation
-abbrev pub IsDecided : Verdict → Type 0
-IsDecided (Satisfied model) = Unit {0}
-IsDecided (Refuted lesson) = Unit {0}
-IsDecided Undecided = ⊥
-
--- propagation decides, a call on the log port failed, and the answer port was not touched
-pub record IsUnlogged (cnf : Cnf) (log : Option (List ℕ)) (before after : Page) : Type 0 where
-  pub decided : IsDecided (verdict_of cnf)
-  pub unanswered : after.answer ≡ before.answer
-  pub failed : LogsFault log (log_text cnf (verdict_of cnf)) before.log after.log
-
--- the log holds its whole text, and the answer port a front of the answer
-pub record IsPartAnswered (cnf : Cnf) (log : Option (List ℕ)) (before after : Page) : Type 0 where
-  pub decided : IsDecided (verdict_of cnf)
-  pub logged : LogsWhole log (log_text cnf (verdict_of cnf)) before.log after.log
-  pub front : GrowsByFront (answer_text (verdict_of cnf)) before.answer.written after.answer.written
-
--- a call on the answer port failed
-pub record IsUnanswered (cnf : Cnf) (log : Option (List ℕ)) (before after : Page) : Type 0 where
-  pub part : IsPartAnswered cnf log before after
-  pub rose : Rose before.answer.faults after.answer.faults
-
--- memory was refused to a log, and the answer port was not touched
-pub record IsPartLogged (cnf : Cnf) (log : Option (List ℕ)) (before after : Page) : Type 0 where
-  pub decided : IsDecided (verdict_of cnf)
-  pub unanswered : after.answer ≡ before.answer
-  pub part : LogsPart log (log_text cnf (verdict_of cnf)) before.log after.log
-
--- what each way to answer says of log and answer
-abbrev pub Answers : Cnf → Option (List ℕ) → Page → Page → Ending → Type 0
-Answers cnf log before after Satisfiable = IsSatisfiable cnf log before after
-Answers cnf log before after Unsatisfiable = IsUnsatisfiable cnf log before after
-Answers cnf log before after LeftOpen = IsLeftOpen cnf before after
-Answers cnf log before after LogFault = IsUnlogged cnf log before after
-Answers cnf log before after AnswerFault = IsUnanswered cnf log before after
-Answers cnf log before after NoMemory = (after ≡ before) ⊎ IsPartLogged cnf log before after ⊎ IsPartAnswered cnf log before after
-Answers cnf log before after Usage = ⊥
-Answers cnf log before after (NoFormula fault) = ⊥
-Answers cnf log before after ReadFault = ⊥
-
--- what writing a log and an answer leaves, by how it ended
-abbrev pub WritesTexts : Option (List ℕ) → List ℕ → List ℕ → Page → Page → Result (Unit {0}) Ending → Type 0
-WritesTexts log log_bytes answer_bytes before after (Ok done) =
-    LogsWhole log log_bytes before.log after.log × (after.answer.written ≡ append_known before.answer.written answer_bytes)
-WritesTexts log log_bytes answer_bytes before after (Err LogFault) =
-    (after.answer ≡ before.answer) × LogsFault log log_bytes before.log after.log
-WritesTexts log log_bytes answer_bytes before after (Err AnswerFault) =
-    LogsWhole log log_bytes before.log after.log × GrowsByFront answer_bytes before.answer.written after.answer.written
-    × Rose before.answer.faults after.answer.faults
-WritesTexts log log_bytes answer_bytes before after (Err NoMemory) =
-    ((after.answer ≡ before.answer) × LogsPart log log_bytes before.log after.log)
-    ⊎ (LogsWhole log log_bytes before.log after.log × GrowsByFront answer_bytes before.answer.written after.answer.written)
-WritesTexts log log_bytes answer_bytes before after (Err Satisfiable) = ⊥
-WritesTexts log log_bytes answer_bytes before after (Err Unsatisfiable) = ⊥
-WritesTexts log log_bytes answer_bytes before after (Err LeftOpen) = ⊥
-WritesTexts log log_bytes answer_bytes before after (Err Usage) = ⊥
-WritesTexts log log_bytes answer_bytes before after (Err (NoFormula fault)) = ⊥
-WritesTexts log log_bytes answer_bytes before after (Err ReadFault) = ⊥
-
--- what writing the texts of a verdict leaves, by how it ended: the texts may be refused memory before anything is written
-abbrev pub WritesVerdict : Cnf → Option (List ℕ) → Verdict → Page → Page → Result (Unit {0}) Ending → Type 0
-WritesVerdict cnf log verdict before after result =
-    WritesTexts log (log_text cnf verdict) (answer_text verdict) before after result ⊎ ((result ≡ Err NoMemory) × (after ≡ before))
+-- what each answer of answering a formula says
+abbrev pub Answers : Cnf → Option (List ℕ) → Page → Page → Result Verdict WriteStop → Type 0
+Answers cnf log before after (Ok verdict) = IsAnswered cnf log before after verdict
+Answers cnf log before after (Err stop) = StopsWriting cnf log (verdict_of cnf) before after stop

@@ -1,22 +1,42 @@
 -- How a run of the program can end, with the exit status and the complaint of each.
-use Rattle.std.specs.Prelude.{ℕ, List, ◌++◌, codes, decimal}
+use Rattle.std.specs.Prelude.{ℕ, List, ◌++◌, codes, decimal, Option, Some, None}
 use Rattle.cnf_text.specs.declared.fault.CnfFault.{CnfFault}
 use Rattle.cnf_text.specs.declared.fault.CnfFault.TheVariants as cnf
 use Rattle.cnf_text.specs.declared.fault.Which.{Which}
 use Rattle.cnf_text.specs.declared.fault.Which.TheVariants.{Variables, Clauses, Literals, Bytes}
+use Rattle.dp2ll.specs.declared.verdict.Verdict.{Verdict}
+use Rattle.dp2ll.specs.declared.verdict.Verdict.TheVariants.{Satisfied, Refuted, Undecided}
+use Rattle.dp2ll.specs.declared.ending.ReadStop.{ReadStop}
+use Rattle.dp2ll.specs.declared.ending.ReadStop.TheVariants as reading
+use Rattle.dp2ll.specs.declared.ending.WriteStop.{WriteStop}
+use Rattle.dp2ll.specs.declared.ending.WriteStop.TheVariants as writing
 use Rattle.dp2ll.specs.declared.ending.Ending.{Ending}
-use Rattle.dp2ll.specs.declared.ending.Ending.TheVariants.{Satisfiable, Unsatisfiable, LeftOpen, Usage, NoFormula, ReadFault, LogFault, AnswerFault, NoMemory}
+use Rattle.dp2ll.specs.declared.ending.Ending.TheVariants.{Answered, Usage, Unread, Unwritten, NoMemory}
 
--- the exit status: 10 and 20 are the SAT competitions' for satisfiable and unsatisfiable, the others are this program's own
+-- the exit status of a verdict: 10 and 20 are the SAT competitions' for satisfiable and unsatisfiable, the others are this program's own
+abbrev pub verdict_status : Verdict → ℕ
+verdict_status (Satisfied model) = 10
+verdict_status (Refuted lesson) = 20
+verdict_status Undecided = 7
+
+-- the exit status where the file gave no formula
+abbrev pub read_status : ReadStop → ℕ
+read_status (reading.NoFormula fault) = 2
+read_status reading.ReadFault = 3
+read_status reading.NoMemory = 5
+
+-- the exit status where log or answer were not written whole
+abbrev pub write_status : WriteStop → ℕ
+write_status writing.LogFault = 4
+write_status writing.AnswerFault = 4
+write_status writing.NoMemory = 5
+
+-- the exit status
 abbrev pub status_of : Ending → ℕ
-status_of Satisfiable = 10
-status_of Unsatisfiable = 20
-status_of LeftOpen = 7
+status_of (Answered verdict) = verdict_status verdict
 status_of Usage = 1
-status_of (NoFormula fault) = 2
-status_of ReadFault = 3
-status_of LogFault = 4
-status_of AnswerFault = 4
+status_of (Unread stop) = read_status stop
+status_of (Unwritten stop) = write_status stop
 status_of NoMemory = 5
 
 -- the line of a fault, counted from 1
@@ -52,14 +72,30 @@ name_of (cnf.OverLimit which line) = limit_name which
 name_of (cnf.TooLong line) = codes "TooLong"
 name_of cnf.NoMemory = codes "NoMemory"
 
--- the line or lines on the complaint port; none where the formula was decided or left open
-abbrev pub complaint_of : Ending → List ℕ
-complaint_of Satisfiable = codes ""
-complaint_of Unsatisfiable = codes ""
-complaint_of LeftOpen = codes ""
-complaint_of Usage = codes "dp2ll: usage\ndp2ll: solve FILE [options] | check FILE PROOF | gen KIND N [options] | race KIND N [options]\n"
-complaint_of (NoFormula fault) = codes "dp2ll: formula line " ++ decimal (line_of fault) ++ codes ": " ++ name_of fault ++ codes "\n"
-complaint_of ReadFault = codes "dp2ll: cannot read formula\n"
-complaint_of LogFault = codes "dp2ll: cannot write log\n"
-complaint_of AnswerFault = codes "dp2ll: cannot write answer\n"
-complaint_of NoMemory = codes "dp2ll: out of memory\n"
+-- the line that want of memory has
+abbrev pub memory_complaint : List ℕ
+memory_complaint = codes "dp2ll: out of memory\n"
+
+-- the lines that words get that are no command line
+abbrev pub usage_text : List ℕ
+usage_text = codes "dp2ll: usage\ndp2ll: solve FILE [options] | check FILE PROOF | gen KIND N [options] | race KIND N [options]\n"
+
+-- the line of a file that gave no formula
+abbrev pub read_complaint : ReadStop → List ℕ
+read_complaint (reading.NoFormula fault) = codes "dp2ll: formula line " ++ decimal (line_of fault) ++ codes ": " ++ name_of fault ++ codes "\n"
+read_complaint reading.ReadFault = codes "dp2ll: cannot read formula\n"
+read_complaint reading.NoMemory = memory_complaint
+
+-- the line of a log or an answer that was not written whole
+abbrev pub write_complaint : WriteStop → List ℕ
+write_complaint writing.LogFault = codes "dp2ll: cannot write log\n"
+write_complaint writing.AnswerFault = codes "dp2ll: cannot write answer\n"
+write_complaint writing.NoMemory = memory_complaint
+
+-- the complaint of an ending; a verdict has none
+abbrev pub complaint_of : Ending → Option (List ℕ)
+complaint_of (Answered verdict) = None
+complaint_of Usage = Some usage_text
+complaint_of (Unread stop) = Some (read_complaint stop)
+complaint_of (Unwritten stop) = Some (write_complaint stop)
+complaint_of NoMemory = Some memory_complaint

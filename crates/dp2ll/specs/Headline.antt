@@ -1,30 +1,29 @@
 -- What a run of the program promises: its status, its answer, its log and its complaint, and when each comes.
-use Rattle.std.specs.Prelude.{◌≡◌, ◌⊎◌, ℕ, ◌≤◌, List, [], Bool, Option, Some, None, Result, Ok, Err, String, string_bytes, map, length}
+use Rattle.std.specs.Prelude.{◌≡◌, ◌⊎◌, ℕ, List, Bool, Option, Some, None, Result, Ok, Err, String, string_bytes, map}
 use Rattle.std.specs.declared.alloc.Global.{Global}
 use Rattle.std.specs.Io.KnownBytes.{append_known}
 use Rattle.lit_base.specs.Cnf.{Cnf}
-use Rattle.lit_base.specs.Truth.{Satisfies}
-use Rattle.lit_base.specs.Judgement.{Checks, HasNoModel}
 use Rattle.lit_base.specs.declared.lesson.Lesson.{Lesson}
-use Rattle.desk_io.specs.Told.{InputsTold, OutputsTold, PortTold, Rose}
-use Rattle.desk_io.specs.Outputs.{GrowsByFront}
+use Rattle.desk_io.specs.Told.{InputsTold, OutputsTold, Rose}
 use Rattle.desk_io.specs.declared.Slot.TheVariants.{Formula}
 use Rattle.desk_io.specs.declared.Port.TheVariants.{Answer, Log, Complaint}
 use Rattle.cnf_text.specs.declared.fault.CnfFault.{CnfFault}
 use Rattle.cnf_text.specs.Reading.{formula_of}
 use Rattle.dp2ll.specs.declared.words.Job.{Job}
 use Rattle.dp2ll.specs.declared.words.Job.TheVariants.{Solve}
-use Rattle.dp2ll.specs.declared.verdict.Verdict.{Verdict}
 use Rattle.dp2ll.specs.declared.verdict.Verdict.TheVariants.{Satisfied, Refuted, Undecided}
+use Rattle.dp2ll.specs.declared.ending.ReadStop.TheVariants as reading
+use Rattle.dp2ll.specs.declared.ending.WriteStop.TheVariants as writing
 use Rattle.dp2ll.specs.declared.ending.Ending.{Ending}
-use Rattle.dp2ll.specs.declared.ending.Ending.TheVariants.{Satisfiable, Unsatisfiable, LeftOpen, Usage, NoFormula, ReadFault, LogFault, AnswerFault, NoMemory}
+use Rattle.dp2ll.specs.declared.ending.Ending.TheVariants.{Answered, Usage, Unread, Unwritten}
 use Rattle.dp2ll.specs.Job.{job_of}
-use Rattle.dp2ll.specs.Ending.{status_of}
-use Rattle.dp2ll.specs.Outcome.{verdict_of, proof_of, log_text, answer_text, sat_text}
-use Rattle.dp2ll.specs.Logging.{LogTold, log_told, LogsWhole, HoldsFront}
-use Rattle.dp2ll.specs.Complaint.{Complains}
+use Rattle.dp2ll.specs.Ending.{verdict_status, status_of, complaint_of}
+use Rattle.dp2ll.specs.Outcome.{verdict_of, log_text, answer_text, sat_text, IsModelOf, IsRefuted, IsDecided}
+use Rattle.dp2ll.specs.Logging.{log_told, LogsWhole}
+use Rattle.dp2ll.specs.Answering.{IsCutInLog, IsCutInAnswer, HoldsTexts}
+use Rattle.dp2ll.specs.Complaint.{Tells, TellsFront, Complains}
 use Rattle.dp2ll.specs.Reading.{BeginsFormula}
-use Rattle.dp2ll.specs.Serving.{Desk, desk, Solves, Serves}
+use Rattle.dp2ll.specs.Serving.{Desk, desk, ReadsAs, Solves, Serves}
 
 -- one call of the program: its job, what inputs and outputs told before and after it, and its exit status
 pub record Run : Type 0 where
@@ -46,62 +45,70 @@ run_of words inputs_before inputs_after before after status = record {
   status = status;
 }
 
--- the desk before the call, and after it
+-- the desk before the call
 abbrev pub desk_before : Run → Desk
 desk_before run = desk run.inputs_before run.before
 
+-- the desk after the call
 abbrev pub desk_after : Run → Desk
 desk_after run = desk run.inputs_after run.after
 
--- the whole of a run: how it ended, and what that says of its status, its file, its log, its answer and its complaint
+-- the whole of a run: how serving its words ended, what that says of its file, its log and its answer, and what the complaint of it leaves
 pub record Headline (run : Run) : Type 0 where
   pub how : Ending
-  pub status : run.status ≡ status_of how
   pub serves : Serves run.job (desk_before run) (desk_after run) how
-  pub complaint : Complains (run.before.at Complaint) (run.after.at Complaint) how
+  pub complains : Complains (complaint_of how) (status_of how) (run.before.at Complaint) (run.after.at Complaint) run.status
 
 -- the job is `solve` on a file, with a log or none, of which this holds
 abbrev pub OnSolve : Option Job → (List ℕ → Option (List ℕ) → Type 0) → Type 0
 OnSolve None P = ⊥
 OnSolve (Some (Solve file log)) P = P file log
 
--- the run is a `solve` that ended like this
-abbrev pub SolvesRun : Run → Ending → Type 0
-SolvesRun run how = OnSolve run.job (λ file log. Solves file log (desk_before run) (desk_after run) how)
+-- a `solve` ended like this by its cause, and its complaint was told
+pub record EndsBy (run : Run) (how : Ending) : Type 0 where
+  pub solves : OnSolve run.job (λ file log. Solves file log (desk_before run) (desk_after run) how)
+  pub complaint : Tells (complaint_of how) (run.before.at Complaint) (run.after.at Complaint)
+
+-- the words are no command line, and the complaint says how to call the program
+pub record IsFaulty (run : Run) : Type 0 where
+  pub no_job : run.job ≡ None
+  pub complaint : Tells (complaint_of Usage) (run.before.at Complaint) (run.after.at Complaint)
 
 -- status 1 comes exactly for words that are no command line, but for want of memory
 pub record Words (run : Run) : Type 0 where
-  pub faulty : run.status ≡ 1 → run.job ≡ None
+  pub faulty : run.status ≡ 1 → IsFaulty run
   pub refused : run.job ≡ None → (run.status ≡ 1) ⊎ (run.status ≡ 5)
 
 -- statuses 10, 20 and 7 come only where the file is a formula that propagation satisfies, refutes or leaves open, and then log and answer hold exactly its texts
 pub record IsSolved (run : Run) : Type 0 where
-  pub satisfiable : run.status ≡ 10 → SolvesRun run Satisfiable
-  pub unsatisfiable : run.status ≡ 20 → SolvesRun run Unsatisfiable
-  pub left_open : run.status ≡ 7 → SolvesRun run LeftOpen
+  pub satisfiable : run.status ≡ 10 → (model : List Bool) × EndsBy run (Answered (Satisfied model))
+  pub unsatisfiable : run.status ≡ 20 → (lesson : Lesson) × EndsBy run (Answered (Refuted lesson))
+  pub left_open : run.status ≡ 7 → EndsBy run (Answered Undecided)
   pub ending : Ending
   pub status : run.status ≡ status_of ending
 
--- the printed model satisfies the formula, which is the file's where that is told
+-- where the file is told, it is this formula
+abbrev pub IsToldFormula : Run → List ℕ → Cnf → Type 0
+IsToldFormula run file cnf = (bytes : List ℕ) → run.inputs_before.held Formula file ≡ Some bytes → formula_of bytes ≡ Ok cnf
+
+-- the printed model has a value for each variable and satisfies the formula, which is the file's
 pub record PrintsModel (run : Run) (file : List ℕ) : Type 0 where
   pub cnf : Cnf
   pub model : List Bool
-  pub satisfied : Satisfies model cnf
+  pub satisfied : IsModelOf cnf model
   pub printed : (run.after.at Answer).written ≡ append_known (run.before.at Answer).written (sat_text model)
-  pub told : (bytes : List ℕ) → run.inputs_before.held Formula file ≡ Some bytes → formula_of bytes ≡ Ok cnf
+  pub told : IsToldFormula run file cnf
 
 -- at status 10 a model is printed, and it satisfies the formula
 abbrev pub IsModel : Run → Type 0
 IsModel run = run.status ≡ 10 → OnSolve run.job (λ file log. PrintsModel run file)
 
--- the log is that of a proof that checks, so no model satisfies the formula, which is the file's where that is told
+-- the log is that of a proof that checks, so no model satisfies the formula, which is the file's
 pub record PrintsProof (run : Run) (file : List ℕ) (log : Option (List ℕ)) : Type 0 where
   pub cnf : Cnf
-  pub lesson : Lesson
-  pub checked : Checks cnf (proof_of cnf (Refuted lesson))
-  pub no_model : HasNoModel cnf
-  pub logged : LogsWhole log (log_text cnf (Refuted lesson)) (log_told run.before) (log_told run.after)
-  pub told : (bytes : List ℕ) → run.inputs_before.held Formula file ≡ Some bytes → formula_of bytes ≡ Ok cnf
+  pub refuted : IsRefuted cnf
+  pub logged : LogsWhole log (log_text cnf) (log_told run.before) (log_told run.after)
+  pub told : IsToldFormula run file cnf
 
 -- at status 20 the proof checks, and a log that is named holds exactly its lines
 abbrev pub IsRefutation : Run → Type 0
@@ -116,52 +123,27 @@ abbrev pub ReadsFile : Option Job → InputsTold → InputsTold → Type 0
 ReadsFile None before after = after ≡ before
 ReadsFile (Some (Solve file log)) before after = BeginsFormula file before after ⊎ (after ≡ before)
 
--- the file is no formula by this fault, and the complaint names it with its line
-pub record RefusesFile (run : Run) : Type 0 where
-  pub fault : CnfFault
-  pub solves : SolvesRun run (NoFormula fault)
-  pub complaint : Complains (run.before.at Complaint) (run.after.at Complaint) (NoFormula fault)
+-- the complaint port holds a front of the complaint of an ending whose cause holds
+pub record TellsPart (run : Run) : Type 0 where
+  pub how : Ending
+  pub cause : Serves run.job (desk_before run) (desk_after run) how
+  pub complaint : Tells (complaint_of how) (run.before.at Complaint) (run.after.at Complaint)
+      ⊎ TellsFront (complaint_of how) (run.before.at Complaint) (run.after.at Complaint)
 
--- statuses 2, 3 and 4 come only by their causes, and whatever comes, only the job's file is begun
+-- statuses 2 to 5 come only by their causes, with the complaint of that cause, and whatever comes, only the job's file is begun
 pub record IsRefusal (run : Run) : Type 0 where
-  pub no_formula : run.status ≡ 2 → RefusesFile run
-  pub unread : run.status ≡ 3 → SolvesRun run ReadFault
-  pub unwritten : run.status ≡ 4 → SolvesRun run LogFault ⊎ SolvesRun run AnswerFault
+  pub no_formula : run.status ≡ 2 → (fault : CnfFault) × EndsBy run (Unread (reading.NoFormula fault))
+  pub unread : run.status ≡ 3 → EndsBy run (Unread reading.ReadFault)
+  pub unwritten : run.status ≡ 4 → EndsBy run (Unwritten writing.LogFault) ⊎ EndsBy run (Unwritten writing.AnswerFault)
+  pub no_memory : run.status ≡ 5 → TellsPart run
   pub inputs : ReadsFile run.job run.inputs_before run.inputs_after
 
--- the answer port grew by a front of some answer
-abbrev pub GrowsByAnswer : PortTold → PortTold → Type 0
-GrowsByAnswer before after = (verdict : Verdict) × GrowsByFront (answer_text verdict) before.written after.written
-
--- the log port holds what it held, or a front of some log that was created in its place
-abbrev pub HoldsSomeLog : PortTold → PortTold → Type 0
-HoldsSomeLog before after =
-    (after.written ≡ before.written) ⊎ ((cnf : Cnf) × (verdict : Verdict) × HoldsFront (log_text cnf verdict) before after)
-
--- what each ending leaves on the answer port: the answer, a front of it, or what stood there before
-abbrev pub AnswerPort : PortTold → PortTold → Ending → Type 0
-AnswerPort before after Satisfiable = (model : List Bool) × (after.written ≡ append_known before.written (sat_text model))
-AnswerPort before after Unsatisfiable =
-    (lesson : Lesson) × (after.written ≡ append_known before.written (answer_text (Refuted lesson)))
-AnswerPort before after LeftOpen = after ≡ before
-AnswerPort before after Usage = after ≡ before
-AnswerPort before after (NoFormula fault) = after ≡ before
-AnswerPort before after ReadFault = after ≡ before
-AnswerPort before after LogFault = after ≡ before
-AnswerPort before after AnswerFault = GrowsByAnswer before after
-AnswerPort before after NoMemory = (after ≡ before) ⊎ GrowsByAnswer before after
-
--- what each ending leaves of logs; where the job names none, nothing of them changes
-abbrev pub LogPort : LogTold → LogTold → Ending → Type 0
-LogPort before after LeftOpen = after ≡ before
-LogPort before after Usage = after ≡ before
-LogPort before after (NoFormula fault) = after ≡ before
-LogPort before after ReadFault = after ≡ before
-LogPort before after Satisfiable = HoldsSomeLog before.port after.port
-LogPort before after Unsatisfiable = HoldsSomeLog before.port after.port
-LogPort before after LogFault = HoldsSomeLog before.port after.port
-LogPort before after AnswerFault = HoldsSomeLog before.port after.port
-LogPort before after NoMemory = HoldsSomeLog before.port after.port
+-- the file is this formula, and of its own texts a front of the log stands and nothing of the answer, or the whole log and a front of the answer
+pub record WritesOwn (file : List ℕ) (log : Option (List ℕ)) (before after : Desk) : Type 0 where
+  pub cnf : Cnf
+  pub read : ReadsAs file before after cnf
+  pub texts : IsCutInLog log (log_text cnf) before.page after.page
+      ⊎ IsCutInAnswer log (log_text cnf) (answer_text (verdict_of cnf)) before.page after.page
 
 -- the job names no log
 abbrev pub HasNoLog : Option Job → Type 0
@@ -169,39 +151,32 @@ HasNoLog None = Unit {0}
 HasNoLog (Some (Solve file None)) = Unit {0}
 HasNoLog (Some (Solve file (Some name))) = ⊥
 
--- what stands on the three ports at every return, by how the run ended
+-- the statuses at which neither log nor answer is touched
+abbrev pub IsSilent : ℕ → Type 0
+IsSilent status = (status ≡ 1) ⊎ (status ≡ 2) ⊎ (status ≡ 3) ⊎ (status ≡ 7)
+
+-- what stands on the ports at every return
 pub record KeepsPorts (run : Run) : Type 0 where
-  pub how : Ending
-  pub status : run.status ≡ status_of how
-  pub answer : AnswerPort (run.before.at Answer) (run.after.at Answer) how
-  pub complaint : Complains (run.before.at Complaint) (run.after.at Complaint) how
-  pub log : LogPort (log_told run.before) (log_told run.after) how
+  pub texts : ((desk_after run).page ≡ (desk_before run).page)
+      ⊎ OnSolve run.job (λ file log. WritesOwn file log (desk_before run) (desk_after run))
+  pub silent : IsSilent run.status → (desk_after run).page ≡ (desk_before run).page
   pub no_log : HasNoLog run.job → log_told run.after ≡ log_told run.before
+  pub complaint : TellsPart run
 
 -- no call on log or answer failed
 pub record IsCalm (run : Run) : Type 0 where
   pub log : ¬ Rose (run.before.at Log).faults (run.after.at Log).faults
   pub answer : ¬ Rose (run.before.at Answer).faults (run.after.at Answer).faults
 
--- the log and the answer hold the texts of this verdict
-pub record HoldsTexts (run : Run) (log : Option (List ℕ)) (cnf : Cnf) (verdict : Verdict) : Type 0 where
-  pub answered : (run.after.at Answer).written ≡ append_known (run.before.at Answer).written (answer_text verdict)
-  pub logged : LogsWhole log (log_text cnf verdict) (log_told run.before) (log_told run.after)
-
--- the status and the texts of a formula, from what propagation decides of it; want of memory may always come
-abbrev pub AnswersBy : Cnf → Option (List ℕ) → Verdict → Run → Type 0
-AnswersBy cnf log (Satisfied model) run =
-    IsCalm run → ((run.status ≡ 10) × HoldsTexts run log cnf (Satisfied model)) ⊎ (run.status ≡ 5)
-AnswersBy cnf log (Refuted lesson) run =
-    IsCalm run → ((run.status ≡ 20) × HoldsTexts run log cnf (Refuted lesson)) ⊎ (run.status ≡ 5)
-AnswersBy cnf log Undecided run =
-    ((run.status ≡ 7) × (run.after.at Answer ≡ run.before.at Answer) × (log_told run.after ≡ log_told run.before)) ⊎ (run.status ≡ 5)
-
--- the same of a file's bytes, which may be no formula
+-- the status and the texts of a file, which may be no formula; want of memory may always come
 abbrev pub AnswersFile : Result Cnf CnfFault → Option (List ℕ) → Run → Type 0
-AnswersFile (Ok cnf) log run = AnswersBy cnf log (verdict_of cnf) run
+AnswersFile (Ok cnf) log run =
+    (IsDecided (verdict_of cnf) → IsCalm run)
+    → ((run.status ≡ verdict_status (verdict_of cnf)) × HoldsTexts cnf log (verdict_of cnf) (desk_before run).page (desk_after run).page)
+    ⊎ (run.status ≡ 5)
 AnswersFile (Err fault) log run =
-    ((run.status ≡ 2) × Complains (run.before.at Complaint) (run.after.at Complaint) (NoFormula fault)) ⊎ (run.status ≡ 5)
+    ((run.status ≡ 2) × Tells (complaint_of (Unread (reading.NoFormula fault))) (run.before.at Complaint) (run.after.at Complaint))
+    ⊎ (run.status ≡ 5)
 
 -- where the file is told and no call on its slot failed, its bytes alone decide
 abbrev pub IsComplete : Run → Type 0
@@ -210,3 +185,14 @@ IsComplete run =
     → run.inputs_before.held Formula file ≡ Some bytes
     → ¬ Rose (run.inputs_before.at Formula).faults (run.inputs_after.at Formula).faults
     → AnswersFile (formula_of bytes) log run
+
+-- the sentences of a run, which follow from its record
+pub record Sentences (run : Run) : Type 0 where
+  pub words : Words run
+  pub solved : IsSolved run
+  pub model : IsModel run
+  pub refuted : IsRefutation run
+  pub unknown : IsNeverUnknown run
+  pub refused : IsRefusal run
+  pub ports : KeepsPorts run
+  pub complete : IsComplete run

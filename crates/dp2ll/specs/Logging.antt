@@ -2,8 +2,8 @@
 use Rattle.std.specs.Prelude.{◌≡◌, ◌⊎◌, ℕ, List, [], ◌∷◌, ◌++◌, Option, Some, None, option_map, Result, Ok, Err}
 use Rattle.desk_io.specs.Told.{PortTold, OutputsTold, raised, Rose}
 use Rattle.desk_io.specs.declared.Port.TheVariants.{Log}
-use Rattle.dp2ll.specs.declared.ending.Ending.{Ending}
-use Rattle.dp2ll.specs.declared.ending.Ending.TheVariants.{Satisfiable, Unsatisfiable, LeftOpen, Usage, NoFormula, ReadFault, LogFault, AnswerFault, NoMemory}
+use Rattle.desk_io.specs.declared.PortFault.{PortFault}
+use Rattle.desk_io.specs.declared.PortFault.TheVariants.{Failed, NoMemory}
 
 -- what the outputs tell of logs: the log port, the names that were created, and how many calls of `create` there were
 pub record LogTold : Type 0 where
@@ -36,19 +36,22 @@ pub record HoldsFront (text : List ℕ) (before after : PortTold) : Type 0 where
   pub parts : done ++ rest ≡ text
   pub written : after.written ≡ rewritten before.written done
 
--- a call on the log port failed: the log could not be created, or holds a front of the text
-pub record FailsLog (name text : List ℕ) (before after : LogTold) : Type 0 where
+-- the log was to be created once under this name: it holds a front of the text, or what it held where it could not be emptied
+pub record CutsLog (name text : List ℕ) (before after : LogTold) : Type 0 where
   pub creates : after.creates ≡ raised before.creates
   pub names : after.names ≡ names_with before.names name
   pub written : (after.port.written ≡ before.port.written) ⊎ HoldsFront text before.port after.port
-  pub rose : Rose before.port.faults after.port.faults
 
--- want of memory: the log is not there, or it was created and holds a front of the text
-pub record StopsLog (name text : List ℕ) (before after : LogTold) : Type 0 where
+-- memory was refused to the log's creation, which changed nothing but the count of such calls
+pub record LacksLog (before after : LogTold) : Type 0 where
   pub creates : after.creates ≡ raised before.creates
-  pub names : (after.names ≡ before.names) ⊎ (after.names ≡ names_with before.names name)
-  pub written : (after.port.written ≡ before.port.written)
-      ⊎ (HoldsFront text before.port after.port × (after.names ≡ names_with before.names name))
+  pub names : after.names ≡ before.names
+  pub written : after.port.written ≡ before.port.written
+
+-- a call on the log port failed, which left the log cut short
+pub record FailsLog (name text : List ℕ) (before after : LogTold) : Type 0 where
+  pub part : CutsLog name text before after
+  pub rose : Rose before.port.faults after.port.faults
 
 -- the log holds this text where one is named, and else nothing of logs changed
 abbrev pub LogsWhole : Option (List ℕ) → List ℕ → LogTold → LogTold → Type 0
@@ -60,20 +63,13 @@ abbrev pub LogsFault : Option (List ℕ) → List ℕ → LogTold → LogTold �
 LogsFault None text before after = ⊥
 LogsFault (Some name) text before after = FailsLog name text before after
 
--- memory was refused to a named log
+-- a named log was cut short, or is not there
 abbrev pub LogsPart : Option (List ℕ) → List ℕ → LogTold → LogTold → Type 0
 LogsPart None text before after = ⊥
-LogsPart (Some name) text before after = StopsLog name text before after
+LogsPart (Some name) text before after = CutsLog name text before after ⊎ LacksLog before after
 
 -- what each answer of writing the log says
-abbrev pub WritesLog : Option (List ℕ) → List ℕ → LogTold → LogTold → Result (Unit {0}) Ending → Type 0
+abbrev pub WritesLog : Option (List ℕ) → List ℕ → LogTold → LogTold → Result (Unit {0}) PortFault → Type 0
 WritesLog log text before after (Ok done) = LogsWhole log text before after
-WritesLog log text before after (Err LogFault) = LogsFault log text before after
+WritesLog log text before after (Err Failed) = LogsFault log text before after
 WritesLog log text before after (Err NoMemory) = LogsPart log text before after
-WritesLog log text before after (Err Satisfiable) = ⊥
-WritesLog log text before after (Err Unsatisfiable) = ⊥
-WritesLog log text before after (Err LeftOpen) = ⊥
-WritesLog log text before after (Err Usage) = ⊥
-WritesLog log text before after (Err (NoFormula fault)) = ⊥
-WritesLog log text before after (Err ReadFault) = ⊥
-WritesLog log text before after (Err AnswerFault) = ⊥

@@ -1,13 +1,14 @@
 -- What propagation on the empty trail decides of a formula, and the texts that say so.
-use Rattle.std.specs.Prelude.{ℕ, ◌+◌, Bool, List, [], ◌∷◌, ◌++◌, length, map, flat_map, codes, Option, Some, None, if◌then◌else◌}
+use Rattle.std.specs.Prelude.{◌≡◌, ℕ, Bool, List, [], ◌++◌, length, flat_map, codes, Option, Some, None, if◌then◌else◌}
 use Rattle.lit_base.specs.Cnf.{Cnf}
+use Rattle.lit_base.specs.Truth.{Satisfies}
 use Rattle.lit_base.specs.Trail.{is_full, model_of}
 use Rattle.lit_base.specs.Rounds.{Propagated}
 use Rattle.lit_base.specs.Text.{values_text, log_line_text}
-use Rattle.lit_base.specs.Refutation.{propagated, root_lesson, number_of_original}
+use Rattle.lit_base.specs.Refutation.{propagated, root_lesson, refutation_of}
+use Rattle.lit_base.specs.Judgement.{Checks, HasNoModel}
 use Rattle.lit_base.specs.declared.name.Name.{Name}
 use Rattle.lit_base.specs.declared.trail.Entry.{Entry}
-use Rattle.lit_base.specs.declared.lesson.Lesson.{Lesson}
 use Rattle.lit_base.specs.declared.proof.Line.{Line}
 use Rattle.lit_base.specs.declared.proof.LineStep.{LineStep}
 use Rattle.lit_base.specs.declared.proof.LineStep.TheVariants.{Add, Delete}
@@ -32,21 +33,23 @@ verdict_by cnf end (Some conflict) = Refuted (root_lesson cnf conflict)
 abbrev pub verdict_of : Cnf → Verdict
 verdict_of cnf = verdict_by cnf (propagated cnf) (propagated cnf).conflict
 
--- the proof of a refuted formula, one line; else no line
-abbrev pub proof_of : Cnf → Verdict → List Line
-proof_of cnf (Satisfied model) = []
-proof_of cnf (Refuted lesson) =
-    record { line = 1; step = Add (length cnf.clauses + 1) [] (map number_of_original lesson.hints) } ∷ []
-proof_of cnf Undecided = []
+-- the proof that a conflict gives, and no line without one
+abbrev pub proof_by : Cnf → Option Name → List Line
+proof_by cnf None = []
+proof_by cnf (Some conflict) = refutation_of cnf conflict
+
+-- the proof of a refuted formula; else no line
+abbrev pub proof_of : Cnf → List Line
+proof_of cnf = proof_by cnf (propagated cnf).conflict
 
 -- a line of a proof as the log has it; the log has no deletions
 abbrev pub step_text : LineStep → List ℕ
 step_text (Add id lits hints) = log_line_text id lits hints
 step_text (Delete id ids) = []
 
--- the log: the lines of the proof
-abbrev pub log_text : Cnf → Verdict → List ℕ
-log_text cnf verdict = flat_map (λ line. step_text line.step) (proof_of cnf verdict)
+-- the log of a formula: the lines of its proof
+abbrev pub log_text : Cnf → List ℕ
+log_text cnf = flat_map (λ line. step_text line.step) (proof_of cnf)
 
 -- the answer of a model: the `s` line and its `v` lines
 abbrev pub sat_text : List Bool → List ℕ
@@ -57,3 +60,25 @@ abbrev pub answer_text : Verdict → List ℕ
 answer_text (Satisfied model) = sat_text model
 answer_text (Refuted lesson) = codes "s UNSATISFIABLE\n"
 answer_text Undecided = []
+
+-- the model has a value for each variable, and satisfies the formula
+pub record IsModelOf (cnf : Cnf) (model : List Bool) : Type 0 where
+  pub values : length model ≡ cnf.variables
+  pub satisfied : Satisfies model cnf
+
+-- the proof of the formula checks, and no model satisfies it
+pub record IsRefuted (cnf : Cnf) : Type 0 where
+  pub checked : Checks cnf (proof_of cnf)
+  pub no_model : HasNoModel cnf
+
+-- the verdict is backed: by a model, or by a proof that checks
+abbrev pub IsBacked : Cnf → Verdict → Type 0
+IsBacked cnf (Satisfied model) = IsModelOf cnf model
+IsBacked cnf (Refuted lesson) = IsRefuted cnf
+IsBacked cnf Undecided = Unit {0}
+
+-- the verdict is a model or a refutation
+abbrev pub IsDecided : Verdict → Type 0
+IsDecided (Satisfied model) = Unit {0}
+IsDecided (Refuted lesson) = Unit {0}
+IsDecided Undecided = ⊥

@@ -1,15 +1,15 @@
 -- Reading the formula's file: what was taken of it, and how that ended.
-use Rattle.std.specs.Prelude.{◌≡◌, ◌⊎◌, ℕ, ◌≤◌, ◌<◌, List, [], ◌++◌, length, Bool, true, false, Option, Some, None, Result, Ok, Err}
+use Rattle.std.specs.Prelude.{◌≡◌, ◌⊎◌, ℕ, ◌≤◌, List, ◌++◌, length, Bool, true, false, Option, Some, None, Result, Ok, Err}
 use Rattle.std.specs.Io.KnownBytes.{prepend_known, IsAtEnd}
 use Rattle.lit_base.specs.Cnf.{Cnf}
-use Rattle.desk_io.specs.Told.{InputsTold, raised, Rose, KeepsOtherSlots}
+use Rattle.desk_io.specs.Told.{InputsTold, SlotTold, raised, Rose, KeepsOtherSlots}
 use Rattle.desk_io.specs.declared.Slot.TheVariants.{Formula}
 use Rattle.cnf_text.specs.declared.fault.CnfFault.{CnfFault}
 use Rattle.cnf_text.specs.declared.fault.CnfFault.TheVariants as cnf
 use Rattle.cnf_text.specs.State.{ReaderState}
 use Rattle.cnf_text.specs.Reading.{formula_of, early_fault, is_ended, IsEnded, HasRead}
-use Rattle.dp2ll.specs.declared.ending.Ending.{Ending}
-use Rattle.dp2ll.specs.declared.ending.Ending.TheVariants.{Satisfiable, Unsatisfiable, LeftOpen, Usage, NoFormula, ReadFault, LogFault, AnswerFault, NoMemory}
+use Rattle.dp2ll.specs.declared.ending.ReadStop.{ReadStop}
+use Rattle.dp2ll.specs.declared.ending.ReadStop.TheVariants.{NoFormula, ReadFault, NoMemory}
 
 -- what reading leaves of the inputs, however it ended: the slot was begun once with this name, and nothing else changed
 pub record BeginsFormula (file : List ℕ) (before after : InputsTold) : Type 0 where
@@ -19,152 +19,144 @@ pub record BeginsFormula (file : List ℕ) (before after : InputsTold) : Type 0 
   pub later : (before.at Formula).faults ≤ (after.at Formula).faults
   pub others : KeepsOtherSlots Formula before.at after.at
 
+-- bytes after which one more piece is read: no fault stands in them, and no line that ends the input
+pub record GoesOn (bytes : List ℕ) : Type 0 where
+  pub no_fault : early_fault bytes ≡ None
+  pub not_ended : is_ended bytes ≡ false
+
+-- a piece is what one read may give
+abbrev pub IsPiece : List ℕ → Type 0
+IsPiece bytes = length bytes ≤ 65536
+
+-- of the bytes that were held a front was taken, each piece judged before the next was read, then one piece more, and the others are left
+pub record Takes (held left : Option (List ℕ)) : Type 0 where
+  pub judged : List ℕ
+  pub last : List ℕ
+  pub goes_on : GoesOn judged
+  pub piece : IsPiece last
+  pub rest : held ≡ prepend_known (judged ++ last) left
+
+-- all bytes that were taken
+abbrev pub bytes_taken : {held left : Option (List ℕ)} → Takes held left → List ℕ
+bytes_taken takes = takes.judged ++ takes.last
+
 -- reading stopped where it should: nothing is left, or the line that ends the input was met
 abbrev pub IsWhole : List ℕ → Option (List ℕ) → Type 0
-IsWhole taken left = IsAtEnd left ⊎ IsEnded taken
+IsWhole bytes left = IsAtEnd left ⊎ IsEnded bytes
 
--- the whole file was taken, or all of it up to the line that ends the input, and it is this formula
-pub record IsRead (file : List ℕ) (before after : InputsTold) (cnf : Cnf) : Type 0 where
-  pub taken : List ℕ
-  pub rest : before.held Formula file ≡ prepend_known taken (after.at Formula).left
-  pub whole : IsWhole taken (after.at Formula).left
-  pub formula : formula_of taken ≡ Ok cnf
+-- the whole file was taken, or all of it up to the piece with the line that ends the input, and it is this formula
+pub record IsRead (held left : Option (List ℕ)) (cnf : Cnf) : Type 0 where
+  pub takes : Takes held left
+  pub whole : IsWhole (bytes_taken takes) left
+  pub formula : formula_of (bytes_taken takes) ≡ Ok cnf
+
+-- the fault is one of the file, and not want of memory
+abbrev pub IsOfFile : CnfFault → Type 0
+IsOfFile fault = fault ≡ cnf.NoMemory → ⊥
 
 -- what was taken has this fault already, or it is the whole file, and this is its fault
-pub record IsNoFormula (file : List ℕ) (before after : InputsTold) (fault : CnfFault) : Type 0 where
-  pub taken : List ℕ
-  pub rest : before.held Formula file ≡ prepend_known taken (after.at Formula).left
-  pub found : (early_fault taken ≡ Some fault) ⊎ (IsWhole taken (after.at Formula).left × (formula_of taken ≡ Err fault))
+pub record IsNoFormula (held left : Option (List ℕ)) (fault : CnfFault) : Type 0 where
+  pub takes : Takes held left
+  pub of_file : IsOfFile fault
+  pub found : (early_fault (bytes_taken takes) ≡ Some fault)
+      ⊎ (IsWhole (bytes_taken takes) left × (formula_of (bytes_taken takes) ≡ Err fault))
 
--- a call on the formula's slot failed; what was taken before has no fault yet, and no line that ends the input
-pub record IsReadFault (file : List ℕ) (before after : InputsTold) : Type 0 where
+-- a call on the formula's slot failed, and after what was taken one more piece was to be read
+pub record IsReadFault (held left : Option (List ℕ)) (faults_before faults_after : ℕ) : Type 0 where
   pub taken : List ℕ
-  pub rest : before.held Formula file ≡ prepend_known taken (after.at Formula).left
-  pub rose : Rose (before.at Formula).faults (after.at Formula).faults
-  pub no_fault : early_fault taken ≡ None
-  pub not_ended : is_ended taken ≡ false
+  pub goes_on : GoesOn taken
+  pub rest : held ≡ prepend_known taken left
+  pub rose : Rose faults_before faults_after
 
--- what each answer of reading says
-abbrev pub Finds : List ℕ → InputsTold → InputsTold → Result Cnf Ending → Type 0
-Finds file before after (Ok cnf) = IsRead file before after cnf
-Finds file before after (Err (NoFormula fault)) = IsNoFormula file before after fault
-Finds file before after (Err ReadFault) = IsReadFault file before after
-Finds file before after (Err NoMemory) = Unit {0}
-Finds file before after (Err Satisfiable) = ⊥
-Finds file before after (Err Unsatisfiable) = ⊥
-Finds file before after (Err LeftOpen) = ⊥
-Finds file before after (Err Usage) = ⊥
-Finds file before after (Err LogFault) = ⊥
-Finds file before after (Err AnswerFault) = ⊥
+-- what each way to stop reading says of the bytes that were held, and of the slot
+abbrev pub StopsReading : Option (List ℕ) → SlotTold → SlotTold → ReadStop → Type 0
+StopsReading held before after (NoFormula fault) = IsNoFormula held after.left fault
+StopsReading held before after ReadFault = IsReadFault held after.left before.faults after.faults
+StopsReading held before after NoMemory = Takes held after.left
+
+-- what each answer of reading a file says
+abbrev pub Finds : Option (List ℕ) → SlotTold → SlotTold → Result Cnf ReadStop → Type 0
+Finds held before after (Ok cnf) = IsRead held after.left cnf
+Finds held before after (Err stop) = StopsReading held before after stop
+
+-- how reading stops by a fault that the reader answered
+abbrev pub StopsBy : CnfFault → ReadStop → Type 0
+StopsBy fault (NoFormula found) = (found ≡ fault) × IsOfFile fault
+StopsBy fault ReadFault = ⊥
+StopsBy fault NoMemory = fault ≡ cnf.NoMemory
 
 -- what one read, or several, leave of the inputs, however they ended
-pub record KeepsBegun (old new : InputsTold) : Type 0 where
-  pub held : new.held ≡ old.held
-  pub begun : (new.at Formula).begun ≡ (old.at Formula).begun
-  pub begins : (new.at Formula).begins ≡ (old.at Formula).begins
-  pub later : (old.at Formula).faults ≤ (new.at Formula).faults
-  pub others : KeepsOtherSlots Formula old.at new.at
+pub record KeepsBegun (before after : InputsTold) : Type 0 where
+  pub held : after.held ≡ before.held
+  pub begun : (after.at Formula).begun ≡ (before.at Formula).begun
+  pub begins : (after.at Formula).begins ≡ (before.at Formula).begins
+  pub later : (before.at Formula).faults ≤ (after.at Formula).faults
+  pub others : KeepsOtherSlots Formula before.at after.at
 
--- a piece was taken, and the reader has read it without a fault and without the line that ends the input
-pub record TakesPiece (old new : InputsTold) (reader : ReaderState) (taken : List ℕ) : Type 0 where
-  pub piece : List ℕ
-  pub some : 1 ≤ length piece
-  pub left : (old.at Formula).left ≡ prepend_known piece (new.at Formula).left
-  pub read : HasRead reader (taken ++ piece)
-  pub no_fault : early_fault (taken ++ piece) ≡ None
-  pub not_ended : is_ended (taken ++ piece) ≡ false
+-- a piece was taken of what was left
+pub record TakesPiece (before after : SlotTold) : Type 0 where
+  pub bytes : List ℕ
+  pub piece : IsPiece bytes
+  pub left : before.left ≡ prepend_known bytes after.left
+
+-- a piece was taken, the reader has read it, and one more is to be read
+pub record ReadsOn (before after : SlotTold) (reader : ReaderState) (taken : List ℕ) : Type 0 where
+  pub takes : TakesPiece before after
+  pub some : 1 ≤ length takes.bytes
+  pub read : HasRead reader (taken ++ takes.bytes)
+  pub goes_on : GoesOn (taken ++ takes.bytes)
 
 -- a piece was taken, and the reader has met the line that ends the input
-pub record TakesLast (old new : InputsTold) (reader : ReaderState) (taken : List ℕ) : Type 0 where
-  pub piece : List ℕ
-  pub left : (old.at Formula).left ≡ prepend_known piece (new.at Formula).left
-  pub read : HasRead reader (taken ++ piece)
-  pub ended : IsEnded (taken ++ piece)
+pub record ReadsLast (before after : SlotTold) (reader : ReaderState) (taken : List ℕ) : Type 0 where
+  pub takes : TakesPiece before after
+  pub read : HasRead reader (taken ++ takes.bytes)
+  pub ended : IsEnded (taken ++ takes.bytes)
 
 -- nothing was left, and the reader stands as it was
-pub record TakesNothing (old new : InputsTold) (reader : ReaderState) (taken : List ℕ) : Type 0 where
-  pub left : (new.at Formula).left ≡ (old.at Formula).left
-  pub at_end : IsAtEnd (new.at Formula).left
+pub record ReadsNothing (before after : SlotTold) (reader : ReaderState) (taken : List ℕ) : Type 0 where
+  pub left : after.left ≡ before.left
+  pub at_end : IsAtEnd after.left
   pub read : HasRead reader taken
 
 -- a piece was taken, and what was taken with it has a fault
-pub record TakesFault (old new : InputsTold) (taken : List ℕ) (fault : CnfFault) : Type 0 where
-  pub piece : List ℕ
-  pub left : (old.at Formula).left ≡ prepend_known piece (new.at Formula).left
-  pub found : early_fault (taken ++ piece) ≡ Some fault
+pub record MeetsFault (before after : SlotTold) (taken : List ℕ) (fault : CnfFault) : Type 0 where
+  pub takes : TakesPiece before after
+  pub of_file : IsOfFile fault
+  pub found : early_fault (taken ++ takes.bytes) ≡ Some fault
 
 -- the read failed, and took nothing
-pub record FailsToTake (old new : InputsTold) : Type 0 where
-  pub left : (new.at Formula).left ≡ (old.at Formula).left
-  pub rose : Rose (old.at Formula).faults (new.at Formula).faults
+pub record FailsToTake (before after : SlotTold) : Type 0 where
+  pub left : after.left ≡ before.left
+  pub rose : Rose before.faults after.faults
+
+-- what each way to stop at one read says, where these bytes were taken before it
+abbrev pub StopsAtPiece : SlotTold → SlotTold → List ℕ → ReadStop → Type 0
+StopsAtPiece before after taken (NoFormula fault) = MeetsFault before after taken fault
+StopsAtPiece before after taken ReadFault = FailsToTake before after
+StopsAtPiece before after taken NoMemory = TakesPiece before after
 
 -- what one read of a piece says, where these bytes were taken before it: `true` stops the reading
-abbrev pub ReadsPiece : InputsTold → InputsTold → ReaderState → List ℕ → Result Bool Ending → Type 0
-ReadsPiece old new reader taken (Ok true) = TakesNothing old new reader taken ⊎ TakesLast old new reader taken
-ReadsPiece old new reader taken (Ok false) = TakesPiece old new reader taken
-ReadsPiece old new reader taken (Err (NoFormula fault)) = TakesFault old new taken fault
-ReadsPiece old new reader taken (Err ReadFault) = FailsToTake old new
-ReadsPiece old new reader taken (Err NoMemory) = Unit {0}
-ReadsPiece old new reader taken (Err Satisfiable) = ⊥
-ReadsPiece old new reader taken (Err Unsatisfiable) = ⊥
-ReadsPiece old new reader taken (Err LeftOpen) = ⊥
-ReadsPiece old new reader taken (Err Usage) = ⊥
-ReadsPiece old new reader taken (Err LogFault) = ⊥
-ReadsPiece old new reader taken (Err AnswerFault) = ⊥
+abbrev pub ReadsPiece : SlotTold → SlotTold → ReaderState → List ℕ → Result Bool ReadStop → Type 0
+ReadsPiece before after reader taken (Ok true) = ReadsNothing before after reader taken ⊎ ReadsLast before after reader taken
+ReadsPiece before after reader taken (Ok false) = ReadsOn before after reader taken
+ReadsPiece before after reader taken (Err stop) = StopsAtPiece before after taken stop
 
--- where reading stands between two reads: what was taken has been read without a fault, in at most as many turns as bytes
+-- where reading stands between two reads: what was taken has been read, one more is to be read, and there were at most as many turns as bytes
 pub record IsReading (start now : InputsTold) (reader : ReaderState) (turns : ℕ) : Type 0 where
   pub kept : KeepsBegun start now
   pub taken : List ℕ
   pub read : HasRead reader taken
-  pub no_fault : early_fault taken ≡ None
-  pub not_ended : is_ended taken ≡ false
+  pub goes_on : GoesOn taken
   pub turns_taken : turns ≤ length taken
   pub rest : (start.at Formula).left ≡ prepend_known taken (now.at Formula).left
 
--- what was left was taken, all of it or up to the line that ends the input, and the reader has read it
-pub record ReadsAll (start after : InputsTold) (reader : ReaderState) : Type 0 where
-  pub taken : List ℕ
-  pub read : HasRead reader taken
-  pub rest : (start.at Formula).left ≡ prepend_known taken (after.at Formula).left
-  pub whole : IsWhole taken (after.at Formula).left
+-- what was left was taken, all of it or up to the piece with the line that ends the input, and the reader has read it
+pub record ReadsAll (held left : Option (List ℕ)) (reader : ReaderState) : Type 0 where
+  pub takes : Takes held left
+  pub read : HasRead reader (bytes_taken takes)
+  pub whole : IsWhole (bytes_taken takes) left
 
--- what was taken has this fault
-pub record MeetsFault (start after : InputsTold) (fault : CnfFault) : Type 0 where
-  pub taken : List ℕ
-  pub rest : (start.at Formula).left ≡ prepend_known taken (after.at Formula).left
-  pub found : early_fault taken ≡ Some fault
-
--- a read failed; what was taken before has no fault yet, and no line that ends the input
-pub record FailsToRead (start after : InputsTold) : Type 0 where
-  pub taken : List ℕ
-  pub rest : (start.at Formula).left ≡ prepend_known taken (after.at Formula).left
-  pub rose : Rose (start.at Formula).faults (after.at Formula).faults
-  pub no_fault : early_fault taken ≡ None
-  pub not_ended : is_ended taken ≡ false
-
--- what reading all pieces says
-abbrev pub ReadsPieces : InputsTold → InputsTold → ReaderState → Result (Unit {0}) Ending → Type 0
-ReadsPieces start after reader (Ok done) = ReadsAll start after reader
-ReadsPieces start after reader (Err (NoFormula fault)) = MeetsFault start after fault
-ReadsPieces start after reader (Err ReadFault) = FailsToRead start after
-ReadsPieces start after reader (Err NoMemory) = Unit {0}
-ReadsPieces start after reader (Err Satisfiable) = ⊥
-ReadsPieces start after reader (Err Unsatisfiable) = ⊥
-ReadsPieces start after reader (Err LeftOpen) = ⊥
-ReadsPieces start after reader (Err Usage) = ⊥
-ReadsPieces start after reader (Err LogFault) = ⊥
-ReadsPieces start after reader (Err AnswerFault) = ⊥
-
--- the ending of a fault of the reader: want of memory is its own
-abbrev pub refusal_of : CnfFault → Ending
-refusal_of (cnf.NoHeader line) = NoFormula (cnf.NoHeader line)
-refusal_of (cnf.BadHeader line) = NoFormula (cnf.BadHeader line)
-refusal_of (cnf.BadNumber line) = NoFormula (cnf.BadNumber line)
-refusal_of (cnf.VariableAbove line) = NoFormula (cnf.VariableAbove line)
-refusal_of (cnf.TooManyClauses line) = NoFormula (cnf.TooManyClauses line)
-refusal_of (cnf.TooFewClauses line) = NoFormula (cnf.TooFewClauses line)
-refusal_of (cnf.Unclosed line) = NoFormula (cnf.Unclosed line)
-refusal_of (cnf.OverLimit which line) = NoFormula (cnf.OverLimit which line)
-refusal_of (cnf.TooLong line) = NoFormula (cnf.TooLong line)
-refusal_of cnf.NoMemory = NoMemory
+-- what reading all pieces of what is left says
+abbrev pub ReadsPieces : SlotTold → SlotTold → ReaderState → Result (Unit {0}) ReadStop → Type 0
+ReadsPieces before after reader (Ok done) = ReadsAll before.left after.left reader
+ReadsPieces before after reader (Err stop) = StopsReading before.left before after stop

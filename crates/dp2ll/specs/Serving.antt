@@ -1,14 +1,18 @@
 -- What each ending of a run says of the file that was read, of the log and of the answer.
-use Rattle.std.specs.Prelude.{◌≡◌, ◌⊎◌, ℕ, List, Option, Some, None}
+use Rattle.std.specs.Prelude.{◌≡◌, ◌⊎◌, ℕ, List, Option, Some, None, Result, Ok, Err}
 use Rattle.lit_base.specs.Cnf.{Cnf}
-use Rattle.cnf_text.specs.declared.fault.CnfFault.{CnfFault}
 use Rattle.desk_io.specs.Told.{InputsTold, OutputsTold}
+use Rattle.desk_io.specs.declared.Slot.TheVariants.{Formula}
 use Rattle.dp2ll.specs.declared.words.Job.{Job}
 use Rattle.dp2ll.specs.declared.words.Job.TheVariants.{Solve}
+use Rattle.dp2ll.specs.declared.verdict.Verdict.{Verdict}
+use Rattle.dp2ll.specs.declared.ending.ReadStop.{ReadStop}
+use Rattle.dp2ll.specs.declared.ending.WriteStop.{WriteStop}
 use Rattle.dp2ll.specs.declared.ending.Ending.{Ending}
-use Rattle.dp2ll.specs.declared.ending.Ending.TheVariants.{Satisfiable, Unsatisfiable, LeftOpen, Usage, NoFormula, ReadFault, LogFault, AnswerFault, NoMemory}
-use Rattle.dp2ll.specs.Reading.{BeginsFormula, IsRead, IsNoFormula, IsReadFault}
-use Rattle.dp2ll.specs.Answering.{Page, page_of, Answers}
+use Rattle.dp2ll.specs.declared.ending.Ending.TheVariants.{Answered, Usage, Unread, Unwritten, NoMemory}
+use Rattle.dp2ll.specs.Outcome.{verdict_of}
+use Rattle.dp2ll.specs.Reading.{BeginsFormula, IsRead, StopsReading}
+use Rattle.dp2ll.specs.Answering.{Page, page_of, IsAnswered, StopsWriting}
 
 -- what inputs and outputs tell at one moment, but for the complaint port
 pub record Desk : Type 0 where
@@ -19,49 +23,51 @@ pub record Desk : Type 0 where
 abbrev pub desk : InputsTold → OutputsTold → Desk
 desk inputs outputs = record { inputs = inputs; page = page_of outputs }
 
--- the file is a formula, and answering it ended like this
-pub record IsAnswering (file : List ℕ) (log : Option (List ℕ)) (before after : Desk) (how : Ending) : Type 0 where
+-- the file was read as this formula
+abbrev pub ReadsAs : List ℕ → Desk → Desk → Cnf → Type 0
+ReadsAs file before after cnf = IsRead (before.inputs.held Formula file) (after.inputs.at Formula).left cnf
+
+-- the file is a formula with this verdict, and its texts are written
+pub record IsSolved (file : List ℕ) (log : Option (List ℕ)) (before after : Desk) (verdict : Verdict) : Type 0 where
   pub cnf : Cnf
-  pub read : IsRead file before.inputs after.inputs cnf
-  pub answer : Answers cnf log before.page after.page how
+  pub read : ReadsAs file before after cnf
+  pub answered : IsAnswered cnf log before.page after.page verdict
 
--- the file is no formula, as far as it was taken or as a whole, by this fault, and nothing was written
-pub record IsRefused (file : List ℕ) (before after : Desk) (fault : CnfFault) : Type 0 where
-  pub read : IsNoFormula file before.inputs after.inputs fault
+-- the file gave no formula, and nothing was written
+pub record IsUnread (file : List ℕ) (before after : Desk) (stop : ReadStop) : Type 0 where
+  pub stops : StopsReading (before.inputs.held Formula file) (before.inputs.at Formula) (after.inputs.at Formula) stop
   pub untouched : after.page ≡ before.page
 
--- a call on the formula's slot failed, and nothing was written
-pub record IsUnread (file : List ℕ) (before after : Desk) : Type 0 where
-  pub read : IsReadFault file before.inputs after.inputs
-  pub untouched : after.page ≡ before.page
+-- the file is a formula, and its texts were cut short
+pub record IsUnwritten (file : List ℕ) (log : Option (List ℕ)) (before after : Desk) (stop : WriteStop) : Type 0 where
+  pub cnf : Cnf
+  pub read : ReadsAs file before after cnf
+  pub stops : StopsWriting cnf log (verdict_of cnf) before.page after.page stop
 
--- the cause of each ending of `solve` on this file, with this log where one is named
+-- the cause of each ending of `solve` on this file, with this log where one is named, once the file was begun
 abbrev pub SolveCause : List ℕ → Option (List ℕ) → Desk → Desk → Ending → Type 0
-SolveCause file log before after Satisfiable = IsAnswering file log before after Satisfiable
-SolveCause file log before after Unsatisfiable = IsAnswering file log before after Unsatisfiable
-SolveCause file log before after LeftOpen = IsAnswering file log before after LeftOpen
+SolveCause file log before after (Answered verdict) = IsSolved file log before after verdict
 SolveCause file log before after Usage = ⊥
-SolveCause file log before after (NoFormula fault) = IsRefused file before after fault
-SolveCause file log before after ReadFault = IsUnread file before after
-SolveCause file log before after LogFault = IsAnswering file log before after LogFault
-SolveCause file log before after AnswerFault = IsAnswering file log before after AnswerFault
-SolveCause file log before after NoMemory = (after.page ≡ before.page) ⊎ IsAnswering file log before after NoMemory
+SolveCause file log before after (Unread stop) = IsUnread file before after stop
+SolveCause file log before after (Unwritten stop) = IsUnwritten file log before after stop
+SolveCause file log before after NoMemory = ⊥
 
 -- `solve` on this file: the file was begun, and then one of the endings came by its cause
 pub record Solves (file : List ℕ) (log : Option (List ℕ)) (before after : Desk) (how : Ending) : Type 0 where
   pub begun : BeginsFormula file before.inputs after.inputs
   pub cause : SolveCause file log before after how
 
--- a run without a job: a usage fault, or want of memory
+-- how `solve` ended, by its answer
+abbrev pub ending_of : Result Verdict Ending → Ending
+ending_of (Ok verdict) = Answered verdict
+ending_of (Err how) = how
+
+-- a run that begins nothing ends by a usage fault or by want of memory
 abbrev pub RefuseCause : Ending → Type 0
-RefuseCause Satisfiable = ⊥
-RefuseCause Unsatisfiable = ⊥
-RefuseCause LeftOpen = ⊥
+RefuseCause (Answered verdict) = ⊥
 RefuseCause Usage = Unit {0}
-RefuseCause (NoFormula fault) = ⊥
-RefuseCause ReadFault = ⊥
-RefuseCause LogFault = ⊥
-RefuseCause AnswerFault = ⊥
+RefuseCause (Unread stop) = ⊥
+RefuseCause (Unwritten stop) = ⊥
 RefuseCause NoMemory = Unit {0}
 
 -- nothing is begun and nothing written

@@ -1,8 +1,8 @@
 ghost use Rattle.std.specs.Prelude.{◌≡◌, Ok};
-ghost use Rattle.dp2ll.specs.Answering.{Answers, page_of, KeepsComplaint, IsBacked, WritesTexts, WritesVerdict};
+ghost use Rattle.dp2ll.specs.Answering.{Answers, page_of, KeepsComplaint, WritesTexts, WritesVerdict};
 ghost use Rattle.dp2ll.specs.Outcome.{verdict_of};
 
-use crate::ending::Ending;
+use crate::ending::WriteStop;
 use crate::log::write_log;
 use crate::texts::{answer_text, log_text};
 use crate::verdict::{Verdict, decide};
@@ -16,59 +16,32 @@ pub(crate) fn answer<O: Outputs>(
     formula: &Formula,
     log: &Option<Text>,
     outputs: &mut O,
-) -> Ending
+) -> Result<Verdict, WriteStop>
     ensures answers { Answers formula.now log.now (page_of (O.told outputs.old)) (page_of (O.told outputs.new)) result }
     ensures complaint { KeepsComplaint (O.told outputs.old) (O.told outputs.new) }
 {
-    match decide(alloc, formula) {
-        Ok(verdict) => answer_verdict(alloc, formula, &verdict, log, outputs),
-        Err(_) => Ending::NoMemory,
-    }
+    let verdict = decide(alloc, formula)?;
+    write_verdict(alloc, formula, &verdict, log, outputs)?;
+    Ok(verdict)
 }
 
-/// Writes log and answer of a verdict, where it is a model or a refutation.
-fn answer_verdict<O: Outputs>(
-    alloc: Global,
-    formula: &Formula,
-    verdict: &Verdict,
-    log: &Option<Text>,
-    outputs: &mut O,
-) -> Ending
-    requires outcome { verdict_of formula.now ≡ verdict.now }
-    requires backed { IsBacked formula.now verdict.now }
-    ensures answers { Answers formula.now log.now (page_of (O.told outputs.old)) (page_of (O.told outputs.new)) result }
-    ensures complaint { KeepsComplaint (O.told outputs.old) (O.told outputs.new) }
-{
-    let ending = match verdict {
-        Verdict::Satisfied(_) => Ending::Satisfiable,
-        Verdict::Refuted(_) => Ending::Unsatisfiable,
-        Verdict::Undecided => return Ending::LeftOpen,
-    };
-    match write_verdict(alloc, formula, verdict, log, outputs) {
-        Ok(()) => ending,
-        Err(refusal) => refusal,
-    }
-}
-
-/// Makes the texts of a verdict, and writes them.
+/// Makes the texts of a verdict and writes them, where it is a model or a refutation.
 fn write_verdict<O: Outputs>(
     alloc: Global,
     formula: &Formula,
     verdict: &Verdict,
     log: &Option<Text>,
     outputs: &mut O,
-) -> Result<(), Ending>
+) -> Result<(), WriteStop>
+    requires { verdict_of formula.now ≡ verdict.now }
     ensures writes { WritesVerdict formula.now log.now verdict.now (page_of (O.told outputs.old)) (page_of (O.told outputs.new)) result }
     ensures complaint { KeepsComplaint (O.told outputs.old) (O.told outputs.new) }
 {
-    let log_bytes = match log_text(alloc, formula.len(), verdict) {
-        Ok(text) => text,
-        Err(_) => return Err(Ending::NoMemory),
-    };
-    let answer_bytes = match answer_text(alloc, verdict) {
-        Ok(text) => text,
-        Err(_) => return Err(Ending::NoMemory),
-    };
+    if let Verdict::Undecided = verdict {
+        return Ok(());
+    }
+    let log_bytes = log_text(alloc, formula, verdict)?;
+    let answer_bytes = answer_text(alloc, verdict)?;
     write_texts(outputs, log, log_bytes.as_slice(), answer_bytes.as_slice())
 }
 
@@ -78,14 +51,18 @@ fn write_texts<O: Outputs>(
     log: &Option<Text>,
     log_bytes: &[u8],
     answer_bytes: &[u8],
-) -> Result<(), Ending>
+) -> Result<(), WriteStop>
     ensures writes { WritesTexts log.now log_bytes.now answer_bytes.now (page_of (O.told outputs.old)) (page_of (O.told outputs.new)) result }
     ensures complaint { KeepsComplaint (O.told outputs.old) (O.told outputs.new) }
 {
-    write_log(outputs, log, log_bytes)?;
+    match write_log(outputs, log, log_bytes) {
+        Ok(()) => {}
+        Err(PortFault::Failed) => return Err(WriteStop::LogFault),
+        Err(PortFault::NoMemory) => return Err(WriteStop::NoMemory),
+    }
     match write_whole(outputs, Port::Answer, answer_bytes) {
         Ok(()) => Ok(()),
-        Err(PortFault::Failed) => Err(Ending::AnswerFault),
-        Err(PortFault::NoMemory) => Err(Ending::NoMemory),
+        Err(PortFault::Failed) => Err(WriteStop::AnswerFault),
+        Err(PortFault::NoMemory) => Err(WriteStop::NoMemory),
     }
 }

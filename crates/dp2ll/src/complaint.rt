@@ -1,9 +1,10 @@
-ghost use Rattle.std.specs.Prelude.{◌≡◌, ◌⊎◌, IfOk};
-ghost use Rattle.dp2ll.specs.Ending.{complaint_of, line_of, limit_name, name_of};
+ghost use Rattle.std.specs.Prelude.{◌≡◌, ◌⊎◌, IfOk, Some};
+ghost use Rattle.dp2ll.specs.declared.ending.ReadStop.TheVariants.{NoFormula};
+ghost use Rattle.dp2ll.specs.Ending.{status_of, read_status, complaint_of, read_complaint, write_complaint, line_of, limit_name, name_of};
 ghost use Rattle.dp2ll.specs.Answering.{page_of};
-ghost use Rattle.dp2ll.specs.Complaint.{Complains, ComplainsOf, EndsAs};
+ghost use Rattle.dp2ll.specs.Complaint.{Complains};
 
-use crate::ending::Ending;
+use crate::ending::{Ending, ReadStop, WriteStop};
 use cnf_text::{CnfFault, Which};
 use desk_io::{Outputs, Port, PortFault, write_whole};
 use itoa::Buffer;
@@ -14,66 +15,84 @@ use std::alloc::Global;
 const USAGE: &[u8; 107] =
     b"dp2ll: usage\ndp2ll: solve FILE [options] | check FILE PROOF | gen KIND N [options] | race KIND N [options]\n";
 
-/// Writes the complaint of an ending, where it has one, and answers the ending that stands then.
+/// The complaint of want of memory.
+const OUT_OF_MEMORY: &[u8; 21] = b"dp2ll: out of memory\n";
+
+/// The status of want of memory.
+const MEMORY_STATUS: u8 = 5;
+
+/// Writes the complaint of an ending, where it has one, and answers the exit status.
 ///
-/// A write that fails changes nothing of the ending; want of memory takes its place.
-pub(crate) fn complain<O: Outputs>(alloc: Global, outputs: &mut O, ending: Ending) -> Ending
-    ensures complaint { Complains ((O.told outputs.old).at Port.Complaint) ((O.told outputs.new).at Port.Complaint) result }
+/// A write that fails changes nothing of the status; want of memory makes it 5.
+pub(crate) fn complain<O: Outputs>(alloc: Global, outputs: &mut O, ending: &Ending) -> u8
+    ensures complaint { Complains (complaint_of ending.now) (status_of ending.now)
+        ((O.told outputs.old).at Port.Complaint) ((O.told outputs.new).at Port.Complaint) result }
     ensures others { page_of (O.told outputs.new) ≡ page_of (O.told outputs.old) }
-    ensures ending { EndsAs ending result }
 {
     match ending {
-        Ending::Satisfiable => ending,
-        Ending::Unsatisfiable => ending,
-        Ending::LeftOpen => ending,
-        Ending::Usage => complain_aloud(outputs, ending, USAGE.as_slice()),
-        Ending::NoFormula(fault) => complain_of_file(alloc, outputs, fault),
-        Ending::ReadFault => complain_aloud(
-            outputs,
-            ending,
-            b"dp2ll: cannot read formula\n".as_slice(),
-        ),
-        Ending::LogFault => complain_aloud(
-            outputs,
-            ending,
-            b"dp2ll: cannot write log\n".as_slice(),
-        ),
-        Ending::AnswerFault => complain_aloud(
-            outputs,
-            ending,
-            b"dp2ll: cannot write answer\n".as_slice(),
-        ),
-        Ending::NoMemory => complain_aloud(outputs, ending, b"dp2ll: out of memory\n".as_slice()),
+        Ending::Answered(verdict) => verdict.status(),
+        Ending::Usage => complain_aloud(outputs, USAGE.as_slice(), 1),
+        Ending::Unread(stop) => complain_of_reading(alloc, outputs, *stop),
+        Ending::Unwritten(stop) => complain_aloud(outputs, write_complaint(*stop), stop.status()),
+        Ending::NoMemory => complain_aloud(outputs, OUT_OF_MEMORY.as_slice(), MEMORY_STATUS),
     }
 }
 
-/// Writes this text, the complaint of the ending.
-fn complain_aloud<O: Outputs>(outputs: &mut O, ending: Ending, text: &[u8]) -> Ending
-    requires { text.now ≡ complaint_of ending }
-    ensures complaint { ComplainsOf ending ((O.told outputs.old).at Port.Complaint) ((O.told outputs.new).at Port.Complaint) result }
+/// Writes this text, the complaint of an ending with this status.
+fn complain_aloud<O: Outputs>(outputs: &mut O, text: &[u8], status: u8) -> u8
+    ensures complaint { Complains (Some text.now) status
+        ((O.told outputs.old).at Port.Complaint) ((O.told outputs.new).at Port.Complaint) result }
     ensures others { page_of (O.told outputs.new) ≡ page_of (O.told outputs.old) }
 {
     match write_whole(outputs, Port::Complaint, text) {
-        Ok(()) => ending,
-        Err(PortFault::Failed) => ending,
-        Err(PortFault::NoMemory) => Ending::NoMemory,
+        Ok(()) | Err(PortFault::Failed) => status,
+        Err(PortFault::NoMemory) => MEMORY_STATUS,
     }
 }
 
-/// Writes the complaint of a file that is no formula.
-fn complain_of_file<O: Outputs>(alloc: Global, outputs: &mut O, fault: CnfFault) -> Ending
-    ensures complaint { ComplainsOf (Ending.NoFormula fault) ((O.told outputs.old).at Port.Complaint) ((O.told outputs.new).at Port.Complaint) result }
+/// Writes the complaint of a file that gave no formula.
+fn complain_of_reading<O: Outputs>(alloc: Global, outputs: &mut O, stop: ReadStop) -> u8
+    ensures complaint { Complains (Some (read_complaint stop)) (read_status stop)
+        ((O.told outputs.old).at Port.Complaint) ((O.told outputs.new).at Port.Complaint) result }
+    ensures others { page_of (O.told outputs.new) ≡ page_of (O.told outputs.old) }
+{
+    match stop {
+        ReadStop::NoFormula(fault) => complain_of_file(alloc, outputs, fault),
+        ReadStop::ReadFault => complain_aloud(
+            outputs,
+            b"dp2ll: cannot read formula\n".as_slice(),
+            stop.status(),
+        ),
+        ReadStop::NoMemory => { complain_aloud(outputs, OUT_OF_MEMORY.as_slice(), stop.status()) }
+    }
+}
+
+/// Writes the complaint of a file that is no formula by this fault.
+fn complain_of_file<O: Outputs>(alloc: Global, outputs: &mut O, fault: CnfFault) -> u8
+    ensures complaint { Complains (Some (read_complaint (NoFormula fault))) 2
+        ((O.told outputs.old).at Port.Complaint) ((O.told outputs.new).at Port.Complaint) result }
     ensures others { page_of (O.told outputs.new) ≡ page_of (O.told outputs.old) }
 {
     match fault_text(alloc, fault) {
-        Ok(text) => complain_aloud(outputs, Ending::NoFormula(fault), text.as_slice()),
-        Err(_) => Ending::NoMemory,
+        Ok(text) => complain_aloud(outputs, text.as_slice(), 2),
+        Err(_) => MEMORY_STATUS,
+    }
+}
+
+/// The line of a log or an answer that was not written whole.
+fn write_complaint(stop: WriteStop) -> &'static [u8]
+    ensures { result.now ≡ write_complaint stop }
+{
+    match stop {
+        WriteStop::LogFault => b"dp2ll: cannot write log\n".as_slice(),
+        WriteStop::AnswerFault => b"dp2ll: cannot write answer\n".as_slice(),
+        WriteStop::NoMemory => OUT_OF_MEMORY.as_slice(),
     }
 }
 
 /// The line that names a fault of the formula and its line.
 fn fault_text(alloc: Global, fault: CnfFault) -> Result<Vec<u8>, NoMemory>
-    ensures { IfOk result (λ text. text.items ≡ complaint_of (Ending.NoFormula fault)) }
+    ensures { IfOk result (λ text. text.items ≡ read_complaint (NoFormula fault)) }
 {
     let mut line = Buffer::new();
     let mut text = Vec::from_slice(alloc, b"dp2ll: formula line ")?;

@@ -1,23 +1,24 @@
 ghost use Rattle.std.specs.Prelude.{◌≡◌};
-ghost use Rattle.dp2ll.specs.Ending.{status_of};
+ghost use Rattle.dp2ll.specs.Ending.{verdict_status, read_status, write_status, status_of};
 
+use crate::verdict::Verdict;
 use cnf_text::CnfFault;
+use lit_base::NoMemory;
 
-/// How a run of the program ends.
+/// Why reading the file gave no formula.
 #[derive(Clone, Copy, Debug, PartialEq, Eq)]
-pub(crate) enum Ending {
-    /// A model was printed.
-    Satisfiable,
-    /// Propagation met a conflict.
-    Unsatisfiable,
-    /// Propagation left a variable free.
-    LeftOpen,
-    /// The words are no command line.
-    Usage,
-    /// The file is no formula, by this fault.
+pub(crate) enum ReadStop {
+    /// The file is no formula, by this fault, which is never want of memory.
     NoFormula(CnfFault),
-    /// The file could not be read.
+    /// The file could not be begun or read.
     ReadFault,
+    /// Memory could not be had.
+    NoMemory,
+}
+
+/// Why log or answer were not written whole.
+#[derive(Clone, Copy, Debug, PartialEq, Eq)]
+pub(crate) enum WriteStop {
     /// The log could not be created or written.
     LogFault,
     /// The answer could not be written.
@@ -26,20 +27,89 @@ pub(crate) enum Ending {
     NoMemory,
 }
 
-impl Ending {
-    /// The exit status: 10 for a model, 20 for a refutation, else one of 1 to 5 and 7.
+/// How a run of the program ends.
+#[derive(Debug, Drop)]
+pub(crate) enum Ending {
+    /// The formula has this verdict, and its log and answer are written.
+    Answered(Verdict),
+    /// The words are no command line.
+    Usage,
+    /// The file was not read as a formula.
+    Unread(ReadStop),
+    /// Log or answer were not written whole.
+    Unwritten(WriteStop),
+    /// Memory could not be had before the file was begun.
+    NoMemory,
+}
+
+impl From<ReadStop> for Ending {
+    ghost use Rattle.std.specs.Prelude.{◌≡◌};
+    ghost use Rattle.dp2ll.specs.declared.ending.Ending.TheVariants.{Unread};
+
+    ghost from_gives = { λ stop ending. ending ≡ Unread stop };
+
+    fn from(stop: ReadStop) -> Ending {
+        Ending::Unread(stop)
+    }
+}
+
+impl From<WriteStop> for Ending {
+    ghost use Rattle.std.specs.Prelude.{◌≡◌};
+    ghost use Rattle.dp2ll.specs.declared.ending.Ending.TheVariants.{Unwritten};
+
+    ghost from_gives = { λ stop ending. ending ≡ Unwritten stop };
+
+    fn from(stop: WriteStop) -> Ending {
+        Ending::Unwritten(stop)
+    }
+}
+
+impl From<NoMemory> for WriteStop {
+    ghost use Rattle.std.specs.Prelude.{◌≡◌};
+    ghost use Rattle.dp2ll.specs.declared.ending.WriteStop.TheVariants as writing;
+
+    ghost from_gives = { λ _ stop. stop ≡ writing.NoMemory };
+
+    fn from(_error: NoMemory) -> WriteStop {
+        WriteStop::NoMemory
+    }
+}
+
+impl ReadStop {
+    /// The exit status: 2, 3 or 5.
     pub(crate) fn status(self) -> u8
-        ensures { result ≡ status_of self }
+        ensures { result ≡ read_status self }
     {
         match self {
-            Ending::Satisfiable => 10,
-            Ending::Unsatisfiable => 20,
-            Ending::LeftOpen => 7,
+            ReadStop::NoFormula(_) => 2,
+            ReadStop::ReadFault => 3,
+            ReadStop::NoMemory => 5,
+        }
+    }
+}
+
+impl WriteStop {
+    /// The exit status: 4 or 5.
+    pub(crate) fn status(self) -> u8
+        ensures { result ≡ write_status self }
+    {
+        match self {
+            WriteStop::LogFault | WriteStop::AnswerFault => 4,
+            WriteStop::NoMemory => 5,
+        }
+    }
+}
+
+impl Ending {
+    /// The exit status: that of the verdict, else one of 1 to 5.
+    pub(crate) fn status(&self) -> u8
+        ensures { result ≡ status_of self.now }
+    {
+        match self {
+            Ending::Answered(verdict) => verdict.status(),
             Ending::Usage => 1,
-            Ending::NoFormula(_) => 2,
-            Ending::ReadFault => 3,
-            Ending::LogFault => 4,
-            Ending::AnswerFault => 4,
+            Ending::Unread(stop) => stop.status(),
+            Ending::Unwritten(stop) => stop.status(),
             Ending::NoMemory => 5,
         }
     }

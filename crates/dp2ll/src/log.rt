@@ -3,7 +3,6 @@ ghost use Rattle.desk_io.specs.declared.Port.TheVariants.{Answer};
 ghost use Rattle.dp2ll.specs.Answering.{KeepsComplaint};
 ghost use Rattle.dp2ll.specs.Logging.{WritesLog, log_told};
 
-use crate::ending::Ending;
 use desk_io::{Outputs, Port, PortFault, write_whole};
 use lit_base::Text;
 
@@ -12,7 +11,7 @@ pub(crate) fn write_log<O: Outputs>(
     outputs: &mut O,
     log: &Option<Text>,
     text: &[u8],
-) -> Result<(), Ending>
+) -> Result<(), PortFault>
     ensures log { WritesLog log.now text.now (log_told (O.told outputs.old)) (log_told (O.told outputs.new)) result }
     ensures answer { (O.told outputs.new).at Answer ≡ (O.told outputs.old).at Answer }
     ensures complaint { KeepsComplaint (O.told outputs.old) (O.told outputs.new) }
@@ -20,14 +19,6 @@ pub(crate) fn write_log<O: Outputs>(
     let Some(name) = log else {
         return Ok(());
     };
-    match outputs.create(Port::Log, name.as_str()) {
-        Ok(()) => {}
-        Err(PortFault::Failed) => return Err(Ending::LogFault),
-        Err(PortFault::NoMemory) => return Err(Ending::NoMemory),
-    }
-    match write_whole(outputs, Port::Log, text) {
-        Ok(()) => Ok(()),
-        Err(PortFault::Failed) => Err(Ending::LogFault),
-        Err(PortFault::NoMemory) => Err(Ending::NoMemory),
-    }
+    outputs.create(Port::Log, name.as_str())?;
+    write_whole(outputs, Port::Log, text)
 }

@@ -52,7 +52,7 @@ fn main(rt: HostRuntime) -> ExitCode {
             &mut outputs,
             &NoGate,
         ),
-        Err(_) => complain(rt.alloc(), &mut outputs, Ending::NoMemory).status(),
+        Err(_) => complain(rt.alloc(), &mut outputs, &Ending::NoMemory),
     };
     ExitCode::from(status)
 }

@@ -1,8 +1,9 @@
-ghost use Rattle.std.specs.Prelude.{◌≡◌, ℕ, [], ◌<◌, List, IfOk, length, vec_len};
+ghost use Rattle.std.specs.Prelude.{◌≡◌, ℕ, [], ◌<◌, ◌≤◌, List, IfOk, length, vec_len};
 ghost use Rattle.cnf_text.specs.Reading.{HasRead};
-ghost use Rattle.dp2ll.specs.Reading.{BeginsFormula, Finds, KeepsBegun, ReadsPiece, ReadsPieces, refusal_of};
+ghost use Rattle.desk_io.specs.declared.Slot.TheVariants.{Formula as FormulaSlot};
+ghost use Rattle.dp2ll.specs.Reading.{BeginsFormula, Finds, KeepsBegun, ReadsPiece, ReadsPieces, StopsBy};
 
-use crate::ending::Ending;
+use crate::ending::ReadStop;
 use cnf_text::{CnfFault, Reader};
 use desk_io::{Inputs, Slot};
 use lit_base::{Formula, NoMemory};
@@ -16,37 +17,38 @@ const MOST_TURNS: u64 = 268_435_457;
 
 /// Reads the file as a formula, piece by piece, up to its end or the line that ends the input.
 ///
-/// Each piece is judged before the next is read.
+/// Each piece is judged before the next is read, and nothing is read behind the line that ends the input.
 pub(crate) fn read_formula<I: Inputs>(
     alloc: Global,
     file: &str,
     inputs: &mut I,
-) -> Result<Formula, Ending>
+) -> Result<Formula, ReadStop>
     ensures begun { BeginsFormula file.now (I.told inputs.old) (I.told inputs.new) }
-    ensures found { Finds file.now (I.told inputs.old) (I.told inputs.new) result }
+    ensures found { Finds ((I.told inputs.old).held FormulaSlot file.now)
+        ((I.told inputs.old).at FormulaSlot) ((I.told inputs.new).at FormulaSlot) result }
 {
     let mut reader = Reader::new(alloc);
     if inputs.begin(Slot::Formula, file).is_err() {
-        return Err(Ending::ReadFault);
+        return Err(ReadStop::ReadFault);
     }
     let mut buffer = match zeros(alloc) {
         Ok(buffer) => buffer,
-        Err(_) => return Err(Ending::NoMemory),
+        Err(_) => return Err(ReadStop::NoMemory),
     };
     read_pieces(inputs, &mut reader, buffer.as_mut_slice())?;
     match reader.end() {
         Ok(formula) => Ok(formula),
-        Err(fault) => Err(refusal(fault)),
+        Err(fault) => Err(stop_of(fault)),
     }
 }
 
-/// The ending of a fault of the reader.
-fn refusal(fault: CnfFault) -> Ending
-    ensures { result ≡ refusal_of fault }
+/// How reading stops by a fault of the reader.
+fn stop_of(fault: CnfFault) -> ReadStop
+    ensures { StopsBy fault result }
 {
     match fault {
-        CnfFault::NoMemory => Ending::NoMemory,
-        _ => Ending::NoFormula(fault),
+        CnfFault::NoMemory => ReadStop::NoMemory,
+        _ => ReadStop::NoFormula(fault),
     }
 }
 
@@ -62,21 +64,23 @@ fn read_piece<I: Inputs>(
     inputs: &mut I,
     reader: &mut Reader,
     buffer: &mut [u8],
-) -> Result<bool, Ending>
-    requires { 0 < length buffer.old }
+) -> Result<bool, ReadStop>
+    requires room { 0 < length buffer.old }
+    requires piece { length buffer.old ≤ PIECE }
     ensures kept { KeepsBegun (I.told inputs.old) (I.told inputs.new) }
-    ensures piece { (taken : List ℕ) → HasRead reader.old taken → ReadsPiece (I.told inputs.old) (I.told inputs.new) reader.new taken result }
+    ensures piece { (taken : List ℕ) → HasRead reader.old taken
+        → ReadsPiece ((I.told inputs.old).at FormulaSlot) ((I.told inputs.new).at FormulaSlot) reader.new taken result }
 {
     let count = match inputs.read(Slot::Formula, buffer) {
         Ok(count) => count,
-        Err(_) => return Err(Ending::ReadFault),
+        Err(_) => return Err(ReadStop::ReadFault),
     };
     if count == 0 {
         return Ok(true);
     }
     match reader.feed(&buffer[..count]) {
         Ok(()) => Ok(reader.done()),
-        Err(fault) => Err(refusal(fault)),
+        Err(fault) => Err(stop_of(fault)),
     }
 }
 
@@ -85,11 +89,12 @@ fn read_pieces<I: Inputs>(
     inputs: &mut I,
     reader: &mut Reader,
     buffer: &mut [u8],
-) -> Result<(), Ending>
+) -> Result<(), ReadStop>
     requires room { 0 < length buffer.old }
+    requires piece { length buffer.old ≤ PIECE }
     requires fresh { HasRead reader.old [] }
     ensures kept { KeepsBegun (I.told inputs.old) (I.told inputs.new) }
-    ensures pieces { ReadsPieces (I.told inputs.old) (I.told inputs.new) reader.new result }
+    ensures pieces { ReadsPieces ((I.told inputs.old).at FormulaSlot) ((I.told inputs.new).at FormulaSlot) reader.new result }
 {
     for _ in 0..MOST_TURNS {
         if read_piece(inputs, reader, buffer)? {

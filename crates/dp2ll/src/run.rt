@@ -1,15 +1,14 @@
-ghost use Rattle.std.specs.Prelude.{◌≡◌, List, ℕ};
-ghost use Rattle.dp2ll.specs.Answering.{KeepsComplaint};
-ghost use Rattle.dp2ll.specs.Serving.{Solves, Serves, desk};
-ghost use Rattle.dp2ll.specs.Headline.{run_of, Headline, Words, IsSolved, IsModel, IsRefutation, IsNeverUnknown, IsRefusal, KeepsPorts, IsComplete};
-ghost use Rattle.desk_io.specs.declared.Port.TheVariants.{Answer};
-ghost use Rattle.dp2ll.specs.Job.{job_of};
 ghost use Rattle.std.specs.Prelude.{map, string_bytes};
+ghost use Rattle.dp2ll.specs.Answering.{KeepsComplaint};
+ghost use Rattle.dp2ll.specs.Serving.{Solves, Serves, desk, ending_of};
+ghost use Rattle.dp2ll.specs.Headline.{run_of, Headline, Sentences};
+ghost use Rattle.dp2ll.specs.Job.{job_of};
 
 use crate::answer::answer;
 use crate::complaint::complain;
 use crate::ending::Ending;
 use crate::read::read_formula;
+use crate::verdict::Verdict;
 use crate::words::{Job, WordFault, read_words};
 use desk_io::{Gate, Inputs, Outputs};
 use lit_base::Text;
@@ -17,11 +16,31 @@ use std::alloc::Global;
 use std::sync::Wait;
 use std::thread::Threads;
 
+/// Runs the program on the words after its name, and gives its exit status.
+///
+/// It does what `run_still` does; the runtime and the gate serve cores that run side by side, of which there are none yet.
+pub fn run<R: Threads + Wait + Sync, I: Inputs, O: Outputs, G: Gate>(
+    rt: &R,
+    alloc: Global,
+    words: &[String],
+    inputs: &mut I,
+    outputs: &mut O,
+    gate: &G,
+) -> u8
+    ensures headline { Headline (run_of words.now (I.told inputs.old) (I.told inputs.new) (O.told outputs.old) (O.told outputs.new) result) }
+    ensures sentences { Sentences (run_of words.now (I.told inputs.old) (I.told inputs.new) (O.told outputs.old) (O.told outputs.new) result) }
+{
+    let _ = rt;
+    let _ = gate;
+    run_still(alloc, words, inputs, outputs)
+}
+
 /// Runs the program on the words after its name, and gives its exit status; it waits for nobody.
 ///
-/// Status 10: a model was printed. 7: propagation decided nothing. 1: the words are no command
-/// line. 2: the file is no formula. 3: it could not be read. 4: the answer could not be written.
-/// 5: memory could not be had.
+/// Status 10: a model was printed. 20: there is none, and the proof was written where a log is
+/// named. 7: propagation decided nothing. 1: the words are no command line. 2: the file is no
+/// formula. 3: it could not be read. 4: log or answer could not be written. 5: memory could not be
+/// had.
 pub fn run_still<I: Inputs, O: Outputs>(
     alloc: Global,
     words: &[String],
@@ -29,29 +48,10 @@ pub fn run_still<I: Inputs, O: Outputs>(
     outputs: &mut O,
 ) -> u8
     ensures headline { Headline (run_of words.now (I.told inputs.old) (I.told inputs.new) (O.told outputs.old) (O.told outputs.new) result) }
-    ensures words { Words (run_of words.now (I.told inputs.old) (I.told inputs.new) (O.told outputs.old) (O.told outputs.new) result) }
-    ensures solved { IsSolved (run_of words.now (I.told inputs.old) (I.told inputs.new) (O.told outputs.old) (O.told outputs.new) result) }
-    ensures model { IsModel (run_of words.now (I.told inputs.old) (I.told inputs.new) (O.told outputs.old) (O.told outputs.new) result) }
-    ensures refuted { IsRefutation (run_of words.now (I.told inputs.old) (I.told inputs.new) (O.told outputs.old) (O.told outputs.new) result) }
-    ensures unknown { IsNeverUnknown (run_of words.now (I.told inputs.old) (I.told inputs.new) (O.told outputs.old) (O.told outputs.new) result) }
-    ensures refused { IsRefusal (run_of words.now (I.told inputs.old) (I.told inputs.new) (O.told outputs.old) (O.told outputs.new) result) }
-    ensures ports { KeepsPorts (run_of words.now (I.told inputs.old) (I.told inputs.new) (O.told outputs.old) (O.told outputs.new) result) }
-    ensures complete { IsComplete (run_of words.now (I.told inputs.old) (I.told inputs.new) (O.told outputs.old) (O.told outputs.new) result) }
-{
-    serve_aloud(alloc, words, inputs, outputs)
-}
-
-/// Serves the words, and writes the complaint of the ending.
-fn serve_aloud<I: Inputs, O: Outputs>(
-    alloc: Global,
-    words: &[String],
-    inputs: &mut I,
-    outputs: &mut O,
-) -> u8
-    ensures { Headline (run_of words.now (I.told inputs.old) (I.told inputs.new) (O.told outputs.old) (O.told outputs.new) result) }
+    ensures sentences { Sentences (run_of words.now (I.told inputs.old) (I.told inputs.new) (O.told outputs.old) (O.told outputs.new) result) }
 {
     let ending = serve(alloc, words, inputs, outputs);
-    complain(alloc, outputs, ending).status()
+    complain(alloc, outputs, &ending)
 }
 
 /// Serves the words, without the complaint.
@@ -66,7 +66,10 @@ fn serve<I: Inputs, O: Outputs>(
     ensures complaint { KeepsComplaint (O.told outputs.old) (O.told outputs.new) }
 {
     match read_words(alloc, words) {
-        Ok(Job::Solve { file, log }) => solve(alloc, file.as_str(), &log, inputs, outputs),
+        Ok(Job::Solve { file, log }) => match solve(alloc, file.as_str(), &log, inputs, outputs) {
+            Ok(verdict) => Ending::Answered(verdict),
+            Err(ending) => ending,
+        },
         Err(WordFault::Usage) => Ending::Usage,
         Err(WordFault::NoMemory) => Ending::NoMemory,
     }
@@ -79,38 +82,11 @@ fn solve<I: Inputs, O: Outputs>(
     log: &Option<Text>,
     inputs: &mut I,
     outputs: &mut O,
-) -> Ending
-    ensures solves { Solves file.now log.now (desk (I.told inputs.old) (O.told outputs.old)) (desk (I.told inputs.new) (O.told outputs.new)) result }
+) -> Result<Verdict, Ending>
+    ensures solves { Solves file.now log.now (desk (I.told inputs.old) (O.told outputs.old))
+        (desk (I.told inputs.new) (O.told outputs.new)) (ending_of result) }
     ensures complaint { KeepsComplaint (O.told outputs.old) (O.told outputs.new) }
 {
-    match read_formula(alloc, file, inputs) {
-        Ok(formula) => answer(alloc, &formula, log, outputs),
-        Err(ending) => ending,
-    }
-}
-
-/// Runs the program on the words after its name, and gives its exit status.
-///
-/// It does what `run_still` does; the runtime and the gate serve cores that run side by side, of which there are none yet.
-pub fn run<R: Threads + Wait + Sync, I: Inputs, O: Outputs, G: Gate>(
-    rt: &R,
-    alloc: Global,
-    words: &[String],
-    inputs: &mut I,
-    outputs: &mut O,
-    gate: &G,
-) -> u8
-    ensures headline { Headline (run_of words.now (I.told inputs.old) (I.told inputs.new) (O.told outputs.old) (O.told outputs.new) result) }
-    ensures words { Words (run_of words.now (I.told inputs.old) (I.told inputs.new) (O.told outputs.old) (O.told outputs.new) result) }
-    ensures solved { IsSolved (run_of words.now (I.told inputs.old) (I.told inputs.new) (O.told outputs.old) (O.told outputs.new) result) }
-    ensures model { IsModel (run_of words.now (I.told inputs.old) (I.told inputs.new) (O.told outputs.old) (O.told outputs.new) result) }
-    ensures refuted { IsRefutation (run_of words.now (I.told inputs.old) (I.told inputs.new) (O.told outputs.old) (O.told outputs.new) result) }
-    ensures unknown { IsNeverUnknown (run_of words.now (I.told inputs.old) (I.told inputs.new) (O.told outputs.old) (O.told outputs.new) result) }
-    ensures refused { IsRefusal (run_of words.now (I.told inputs.old) (I.told inputs.new) (O.told outputs.old) (O.told outputs.new) result) }
-    ensures ports { KeepsPorts (run_of words.now (I.told inputs.old) (I.told inputs.new) (O.told outputs.old) (O.told outputs.new) result) }
-    ensures complete { IsComplete (run_of words.now (I.told inputs.old) (I.told inputs.new) (O.told outputs.old) (O.told outputs.new) result) }
-{
-    let _ = rt;
-    let _ = gate;
-    run_still(alloc, words, inputs, outputs)
+    let formula = read_formula(alloc, file, inputs)?;
+    Ok(answer(alloc, &formula, log, outputs)?)
 }

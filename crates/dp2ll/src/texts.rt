@@ -1,13 +1,12 @@
-ghost use Rattle.std.specs.Prelude.{◌≡◌, ◌≤◌, ◌∷◌, ◌++◌, [], IfOk, OnOk, length, map, flat_map, decimal};
-ghost use Rattle.lit_base.specs.Cnf.{Cnf};
+ghost use Rattle.std.specs.Prelude.{◌≡◌, ◌∷◌, ◌++◌, [], IfOk, OnOk, map, flat_map, decimal};
 ghost use Rattle.lit_base.specs.Text.{log_line_text};
 ghost use Rattle.lit_base.specs.Refutation.{number_of_original};
-ghost use Rattle.dp2ll.specs.Outcome.{answer_text, log_text};
+ghost use Rattle.dp2ll.specs.Outcome.{verdict_of, answer_text, log_text};
 
 use crate::values::sat_text;
 use crate::verdict::Verdict;
 use itoa::Buffer;
-use lit_base::{Name, NoMemory};
+use lit_base::{Formula, Name, NoMemory};
 use std::alloc::Global;
 
 /// The answer of a verdict: the `s` line, and the `v` lines of a model; nothing where it is undecided.
@@ -21,17 +20,19 @@ pub(crate) fn answer_text(alloc: Global, verdict: &Verdict) -> Result<Vec<u8>, N
     }
 }
 
-/// The log of a verdict on a formula of so many clauses: the line of a refutation, and nothing else.
+/// The log of a formula with this verdict: the line of a refutation, and nothing else.
 pub(crate) fn log_text(
     alloc: Global,
-    clauses: usize,
+    formula: &Formula,
     verdict: &Verdict,
 ) -> Result<Vec<u8>, NoMemory>
-    requires { clauses ≤ 4000000 }
-    ensures { IfOk result (λ text. (cnf : Cnf) → length cnf.clauses ≡ clauses → text.items ≡ log_text cnf verdict.now) }
+    requires { verdict_of formula.now ≡ verdict.now }
+    ensures { IfOk result (λ text. text.items ≡ log_text formula.now) }
 {
     match verdict {
-        Verdict::Refuted(lesson) => empty_lemma_text(alloc, clauses + 1, lesson.hints.as_slice()),
+        Verdict::Refuted(lesson) => {
+            empty_lemma_text(alloc, formula.len() + 1, lesson.hints.as_slice())
+        }
         Verdict::Satisfied(_) | Verdict::Undecided => Ok(Vec::new(alloc)),
     }
 }

@@ -1,6 +1,6 @@
 ghost use Rattle.std.specs.Prelude.{◌≡◌, IfOk};
-ghost use Rattle.dp2ll.specs.Outcome.{verdict_of};
-ghost use Rattle.dp2ll.specs.Answering.{IsBacked};
+ghost use Rattle.dp2ll.specs.Outcome.{verdict_of, IsBacked};
+ghost use Rattle.dp2ll.specs.Ending.{verdict_status};
 
 use crate::analyse::lesson_of;
 use crate::propagate::propagate;
@@ -16,6 +16,19 @@ pub(crate) enum Verdict {
     Refuted(Lesson),
     /// It leaves a variable free.
     Undecided,
+}
+
+impl Verdict {
+    /// The exit status: 10 for a model, 20 for a refutation, 7 where nothing is decided.
+    pub(crate) fn status(&self) -> u8
+        ensures { result ≡ verdict_status self.now }
+    {
+        match self {
+            Verdict::Satisfied(_) => 10,
+            Verdict::Refuted(_) => 20,
+            Verdict::Undecided => 7,
+        }
+    }
 }
 
 /// What propagation on the empty trail decides.

@@ -1,4 +1,4 @@
-use Rattle.std.proofs.Common.{◌≡◌, ◌∙◌, ap, arith, reverse, take, ◌≤◌, length}
+use Rattle.std.proofs.Common.{◌∙◌, ap, arith, reverse, take, ◌≤◌, length}
 use Rattle.lit_base.specs.Rounds.{original, unit_of}
 use Rattle.lit_base.proofs.RoundSteps.{with_unit-keeps, with_units-step}
 use Rattle.dp2ll.proofs.propagate.add_units.Goals as goal

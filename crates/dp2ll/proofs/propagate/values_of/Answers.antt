@@ -1,6 +1,6 @@
-use Rattle.std.proofs.Common.{◌≡◌, ◌∙◌, sym, ap, cond, arith, reverse, ◌++◌, ◌∷◌, []}
+use Rattle.std.proofs.Common.{◌∙◌, sym, ap, cond, arith, reverse, ◌++◌, ◌∷◌, []}
 use Rattle.std.specs.Prelude.{Some, None}
-use Rattle.lit_base.specs.Trail.{is_full, model_of}
+use Rattle.lit_base.specs.Trail.{model_of}
 use Rattle.lit_base.proofs.Signs.{is_full-free, is_full-more, values_from-more}
 use Rattle.dp2ll.proofs.propagate.values_of.Goals as goal
 

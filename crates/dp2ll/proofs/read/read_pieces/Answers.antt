@@ -1,5 +1,5 @@
 use Rattle.std.proofs.lemmas.Result.{err_from_is_err_and}
-use Rattle.dp2ll.proofs.ReadingLemmas.{reading_starts, reading_goes_on, turns_bounded, pieces_refused, pieces_end}
+use Rattle.dp2ll.proofs.ReadingLemmas.{reading_starts, reading_goes_on, turns_bounded, pieces_stop, pieces_end}
 use Rattle.dp2ll.proofs.read.read_pieces.Goals as goal
 
 -- nothing was taken yet
@@ -20,9 +20,8 @@ returns-in_err-read_piece-clause-pieces g c =
     let h = c.loop.invariant in
     let p = err_from_is_err_and c.from_residual.result c.from_residual.ensures.1 in
     rw (p.1, p.2)
-    (pieces_refused (g.I.Inputs.told c.args.inputs.now) (g.I.Inputs.told c.loop.inputs) (g.I.Inputs.told c.read_piece.new.inputs)
-    c.loop.reader c.read_piece.new.reader c.loop.counter c.in_err-read_piece.field-0.0 h
-    (c.in_err-read_piece.ensures.piece h.taken h.read))
+    (pieces_stop (g.I.Inputs.told c.args.inputs.now) (g.I.Inputs.told c.loop.inputs) (g.I.Inputs.told c.read_piece.new.inputs)
+    c.loop.reader c.loop.counter c.in_err-read_piece.field-0.0 h (c.in_err-read_piece.ensures.piece h.taken h.read))
 
 -- a read that stops the reading
 pub returns-then-branch-clause-pieces : goal.returns-then-branch-clause-pieces

@@ -2,10 +2,10 @@ use Rattle.std.proofs.Common.{rules}
 use Rattle.dp2ll.proofs.Decided.{refuted_backed, satisfied_backed}
 use Rattle.dp2ll.proofs.verdict.decide.Goals as goal
 
--- the lesson of the conflict refutes the formula
+-- the conflict refutes the formula
 pub returns-in-Some-clause-backed : goal.returns-in-Some-clause-backed
 returns-in-Some-clause-backed c =
-    refuted_backed c.args.formula.now c.in-Some.conflict c.in_ok-lesson_of.field-0 (search rules) (search rules)
+    refuted_backed c.args.formula.now c.in-Some.conflict (search rules)
 
 -- the model satisfies the formula
 pub returns-in-Some-2-clause-backed : goal.returns-in-Some-2-clause-backed
