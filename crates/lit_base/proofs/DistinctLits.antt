@@ -29,7 +29,8 @@ beq-true true false h = cc
 beq-true false true h = cc
 beq-true false false h = refl
 
-literal_at : (a b : ℕ) (p q : Bool) → a ≡ b → p ≡ q → (let l : Literal = record { variable = a; positive = p } in l) ≡ record { variable = b; positive = q }
+-- literals with equal variables and signs
+pub literal_at : (a b : ℕ) (p q : Bool) → a ≡ b → p ≡ q → (let l : Literal = record { variable = a; positive = p } in l) ≡ record { variable = b; positive = q }
 literal_at a b p q e f = cc
 
 pub same-true : (l m : Literal) → same l m ≡ true → l ≡ m
@@ -114,7 +115,7 @@ distinct_passed lits kept i x before in_range is there =
 at_place : (p k : ℕ) (b : Bool) → cond (is_at (nat_cmp p) k) true b ≡ (b || ((p == k) || false))
 at_place p k b = grind (arith, nat_tests)
 
-not_not : (b : Bool) → not (not b) ≡ b
+pub not_not : (b : Bool) → not (not b) ≡ b
 not_not true = refl
 not_not false = refl
 

@@ -14,7 +14,7 @@ use Rattle.lit_base.proofs.DistinctLits.{same-true}
 use Rattle.lit_base.proofs.Known.{all_at}
 use Rattle.lit_base.proofs.Standing.{Stands, negation_stands, not_both_stand, free_and_found, newest_stands, newest_extends}
 use Rattle.lit_base.proofs.HeldClauses.{same_name-true}
-use Rattle.lit_base.proofs.OneOfLevel.{each_when}
+use Rattle.lit_base.proofs.Lists.{each_when}
 
 -- no literal of the clause that was looked up stands on the trail
 abbrev NoneStands : List Entry → Option (List Literal) → Type 0

@@ -1,5 +1,5 @@
 -- Literals held true, and what the status of a clause says of its literals.
-use Rattle.std.proofs.Common.{◌≡◌, ℕ, ◌==◌, Bool, true, false, cond, not, ◌&&◌, ◌||◌, List, [], ◌∷◌, refl, ap, subst, inl, inr}
+use Rattle.std.proofs.Common.{◌≡◌, ◌==◌, Bool, true, false, cond, not, ◌&&◌, ◌||◌, List, [], ◌∷◌, refl, ap, subst, inl, inr}
 use Rattle.std.specs.Prelude.{Option, Some, None, find}
 use Rattle.std.specs.Bool.{beq}
 use Rattle.std.specs.List.{list_any, list_all}
@@ -9,7 +9,7 @@ use Rattle.lit_base.specs.Literal.{Literal, negation, same}
 use Rattle.lit_base.specs.Walk.{holds, fails, status_of, status_by}
 use Rattle.lit_base.specs.declared.proof.ClauseStatus.{ClauseStatus}
 use Rattle.lit_base.specs.declared.proof.ClauseStatus.TheVariants.{Satisfied, Falsified, Implies, Unresolved}
-use Rattle.lit_base.proofs.DistinctLits.{same-true}
+use Rattle.lit_base.proofs.DistinctLits.{same-true, not_not}
 
 -- an element that passes both tests, where all pass the one and some passes the other
 pub all_any : {X : Type 0} (p q : X → Bool) (xs : List X) → list_all p xs ≡ true → list_any q xs ≡ true → (x : X) × (p x ≡ true) × (q x ≡ true)
@@ -39,10 +39,6 @@ beq_itself false = refl
 pub same_itself : (l : Literal) → same l l ≡ true
 same_itself l = and_from (l.variable == l.variable) (beq l.positive l.positive) (eq-eqb l.variable l.variable refl) (beq_itself l.positive)
 
--- literals with equal variables and signs
-pub literal_at : (a b : ℕ) (p q : Bool) → a ≡ b → p ≡ q → (let l : Literal = record { variable = a; positive = p } in l) ≡ record { variable = b; positive = q }
-literal_at a b p q e f = cc
-
 beq-not : (a b : Bool) → beq (not a) (not b) ≡ beq a b
 beq-not true true = refl
 beq-not true false = refl
@@ -51,10 +47,6 @@ beq-not false false = refl
 
 pub same-negations : (a b : Literal) → same (negation a) (negation b) ≡ same a b
 same-negations a b = ap (λ t. (a.variable == b.variable) && t) (beq-not a.positive b.positive)
-
-pub not_not : (b : Bool) → not (not b) ≡ b
-not_not true = refl
-not_not false = refl
 
 pub negation-negation : (l : Literal) → negation (negation l) ≡ l
 negation-negation l = ap (λ b. let m : Literal = record { variable = l.variable; positive = b } in m) (not_not l.positive)

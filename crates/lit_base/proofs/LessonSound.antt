@@ -16,8 +16,8 @@ use Rattle.lit_base.specs.declared.proof.ClauseStatus.{ClauseStatus}
 use Rattle.lit_base.specs.declared.proof.ClauseStatus.TheVariants.{Satisfied, Falsified, Implies, Unresolved}
 use Rattle.lit_base.specs.declared.proof.Judged.{Judged}
 use Rattle.lit_base.specs.declared.proof.Judged.TheVariants.{Follows}
-use Rattle.lit_base.proofs.DistinctLits.{same-true}
-use Rattle.lit_base.proofs.Known.{all_any, all_when, all_at, same_itself, literal_at, Tells, status_tells, IsOpen, negation-negation}
+use Rattle.lit_base.proofs.DistinctLits.{same-true, literal_at}
+use Rattle.lit_base.proofs.Known.{all_any, all_when, all_at, same_itself, Tells, status_tells, IsOpen, negation-negation}
 use Rattle.lit_base.proofs.Standing.{Stands, negation_stands, not_both_stand, Extends, newest_stands, newest_extends}
 
 -- each literal that is held true stands on the trail

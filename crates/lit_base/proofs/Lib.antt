@@ -1,4 +1,5 @@
 pub mod DistinctLits
+pub mod Lists
 pub mod Apart
 pub mod Signs
 pub mod RoundSteps
@@ -28,5 +29,6 @@ pub mod TrailWithin
 pub mod HintsDistinct
 pub mod Passed
 pub mod Touched
+pub mod HintReasons
 pub mod NameOrder
 pub mod RoundOrder

@@ -10,19 +10,10 @@ use Rattle.lit_base.specs.declared.name.Name.{Name}
 use Rattle.lit_base.specs.Trail.{sign_of, level_of, is_free, level_now}
 use Rattle.lit_base.specs.Fits.{HasDistinctVariables, IsNextLevel, IsLeveled}
 use Rattle.lit_base.specs.Analysis.{Trace, variables_of, is_marked, is_other_left, is_resolved, stay, resolve, touch, settle, trace_step, trace, first_trace}
+use Rattle.lit_base.proofs.Lists.{each_when, one_more}
 use Rattle.lit_base.proofs.Known.{all_at, any_when}
 use Rattle.lit_base.proofs.Standing.{Stands, free_and_found, newest_stands, newest_extends}
 use Rattle.lit_base.proofs.LessonSound.{marked_with, still_marked}
-
--- what follows for each element from what holds of each
-pub each_when : {X : Type 0} (P Q : X → Type 0) → ((x : X) → P x → Q x) → (xs : List X) → AllByRecursion P xs → AllByRecursion Q xs
-each_when P Q step [] all = tt
-each_when P Q step (x ∷ xs) all = (step x all.0, each_when P Q step xs all.1)
-
--- what holds of each element, and of one more at the end
-pub one_more : {X : Type 0} (P : X → Type 0) (xs : List X) (x : X) → AllByRecursion P xs → P x → AllByRecursion P (xs ++ x ∷ [])
-one_more P [] x all one = (one, tt)
-one_more P (y ∷ ys) x all one = (all.0, one_more P ys x all.1 one)
 
 -- the entry's sign and its level are those of its variable on the trail
 pub record IsOn (trail : List Entry) (e : Entry) : Type 0 where

@@ -14,7 +14,7 @@ use Rattle.lit_base.specs.declared.trail.Entry.{Entry}
 use Rattle.lit_base.specs.declared.name.Name.{Name}
 use Rattle.lit_base.specs.declared.lesson.Lesson.{Lesson}
 use Rattle.lit_base.proofs.FixedPoint.{free_count, free_count-le, free_count-less}
-use Rattle.lit_base.proofs.OneOfLevel.{each_when, one_more}
+use Rattle.lit_base.proofs.Lists.{each_when, one_more, distinct_more}
 use Rattle.lit_base.proofs.TrailWithin.{IsTrailWithin}
 
 -- a variable that is free on a trail is another one than the newest, and is free on the older entries
@@ -24,12 +24,6 @@ free_parts e older v = by_test (e.lit.variable == v)
     by_test : (b : Bool) → is_none (cond b (Some e.lit.positive) (sign_of older v)) ≡ true → (b ≡ false) × (is_free older v ≡ true)
     by_test true free = cc
     by_test false free = (refl, free)
-
--- distinct elements and one more
-distinct_more : {X : Type 0} (eq : X → X → Bool) (xs : List X) (x : X) → IsDistinct eq xs → AllByRecursion (λ y. eq y x ≡ false) xs → IsDistinct eq (xs ++ x ∷ [])
-unfolding IsDistinct
-distinct_more eq [] x apart differ = (tt, tt)
-distinct_more eq (y ∷ ys) x apart differ = (one_more (λ z. eq y z ≡ false) ys x apart.0 differ.0, distinct_more eq ys x apart.1 differ.1)
 
 -- distinct variables within the first n, none of which stands on the rest of the trail
 record ArePassed (n : ℕ) (rest : List Entry) (variables : List ℕ) : Type 0 where

@@ -13,7 +13,7 @@ use Rattle.lit_base.specs.Fits.{FindsAll}
 use Rattle.lit_base.specs.Order.{IsLeastConflict, IsUnitEntry, is_reason_before, is_reason_up_to, HaveRisingReasons, IsTaken, AddsUnits}
 use Rattle.lit_base.specs.declared.trail.Entry.{Entry}
 use Rattle.lit_base.specs.declared.name.Name.{Name}
-use Rattle.lit_base.proofs.OneOfLevel.{each_when}
+use Rattle.lit_base.proofs.Lists.{each_when}
 use Rattle.lit_base.proofs.FixIsQuiet.{unit_is_free}
 use Rattle.lit_base.proofs.FullTrail.{first_holds, others_hold}
 use Rattle.lit_base.proofs.NameOrder.{not_before_itself, not_before, rising_found}

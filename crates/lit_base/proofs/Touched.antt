@@ -109,11 +109,16 @@ touch_marking look trail e older t on marked before = record {
 stay_marking : (look : Name → Option (List Literal)) (trail rest : List Entry) (e : Entry) (t : Trace) → IsMarking look trail rest t → IsMarking look trail rest (stay e t)
 stay_marking look trail rest e t before = record { met = before.met; sound = before.sound; reached = before.reached }
 
+-- a reason that becomes a hint meets the variables that its marks add
+pub met_more : (look : Name → Option (List Literal)) (name : Name) (marked : List ℕ) (hints : List Name) (v : ℕ) → is_marked marked v ≡ is_met look hints v →
+    is_marked (variables_of (look name) ++ marked) v ≡ is_met look (name ∷ hints) v
+met_more look name marked hints v were = list_any-append (λ m. m == v) (variables_of (look name)) marked ∙ ap (λ b. is_marked (variables_of (look name)) v || b) were
+
 resolve_marking : (look : Name → Option (List Literal)) (trail : List Entry) (e : Entry) (older : List Entry) (reason : Option Name) (t : Trace) → IsOn trail e → HasReason look older e.lit reason →
     IsMarking look trail older (touch e t) → IsMarking look trail older (resolve look e reason (touch e t))
 resolve_marking look trail e older None t on has before = stay_marking look trail older e (touch e t) before
 resolve_marking look trail e older (Some name) t on has before = record {
-  met = λ v. list_any-append (λ m. m == v) (variables_of (look name)) t.marked ∙ ap (λ b. is_marked (variables_of (look name)) v || b) (before.met v);
+  met = λ v. met_more look name t.marked t.hints v (before.met v);
   sound = λ v there. let was = before.sound v there in (still_marked (variables_of (look name)) t.marked v was.0, was.1);
   reached = λ v is_in above. elim (or_cases (is_marked (variables_of (look name)) v) (is_marked t.marked v) (sym (list_any-append (λ m. m == v) (variables_of (look name)) t.marked) ∙ is_in)) [
     | inl fresh ↦ elim (reason_stands older e.lit (look name) has v fresh) [
@@ -154,7 +159,7 @@ trace_marking look level trail [] t on fits before = before
 trace_marking look level trail (e ∷ older) t on fits before =
     trace_marking look level trail older (trace_step look level e older t) on.1 fits.1 (step_marking look level trail e older t on.0 fits.0 before)
 
-or_nothing : (b : Bool) → b ≡ (b || false)
+pub or_nothing : (b : Bool) → b ≡ (b || false)
 or_nothing true = refl
 or_nothing false = refl
 

@@ -14,7 +14,8 @@ use Rattle.lit_base.specs.Quiet.{IsQuiet, HasTwoOfLevel}
 use Rattle.lit_base.specs.declared.trail.Entry.{Entry}
 use Rattle.lit_base.specs.declared.name.Name.{Name}
 use Rattle.lit_base.proofs.Standing.{negation_stands, false_from_stands}
-use Rattle.lit_base.proofs.Known.{all_at, all_from_none, found_from_some, beq_itself, not_not}
+use Rattle.lit_base.proofs.Known.{all_at, all_from_none, found_from_some, beq_itself}
+use Rattle.lit_base.proofs.DistinctLits.{not_not}
 use Rattle.lit_base.proofs.Cuts.{level_of-at_most, sign_of-cut-below, sign_of-cut-above}
 
 level_by : (e : Entry) (o : Option Bool) (p : Option ℕ) (sign b : Bool) → cond b (Some e.lit.positive) o ≡ Some sign → (o ≡ Some sign → (m : ℕ) × (p ≡ Some m)) →

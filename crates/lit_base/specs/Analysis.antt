@@ -1,10 +1,11 @@
 -- Analysis of a conflict, up to the first unique implication point (Marques-Silva and Sakallah 1996).
 -- `look` finds the literals of a clause by its name.
-use Rattle.std.specs.Prelude.{ℕ, ◌≡◌, ◌==◌, ◌≤◌, max, Bool, not, ◌&&◌, ◌||◌, if◌then◌else◌}
+use Rattle.std.specs.Prelude.{ℕ, ◌≡◌, ◌==◌, ◌≤◌, max, Bool, false, not, ◌&&◌, ◌||◌, if◌then◌else◌}
 use Rattle.std.specs.Prelude.{List, [], ◌∷◌, ◌++◌, map, filter, fold, Option, Some, None}
 use Rattle.std.specs.List.{list_any}
 use Rattle.lit_base.specs.Literal.{Literal, negation}
 use Rattle.lit_base.specs.Trail.{level_now, level_of}
+use Rattle.lit_base.specs.Named.{same_name}
 use Rattle.lit_base.specs.declared.trail.Entry.{Entry}
 use Rattle.lit_base.specs.declared.name.Name.{Name}
 use Rattle.lit_base.specs.declared.lesson.Lesson.{Lesson}
@@ -94,3 +95,13 @@ pub record IsAboveRoot (trail : List Entry) (v : ℕ) : Type 0 where
   pub level : ℕ
   pub stands : level_of trail v ≡ Some level
   pub above_root : 1 ≤ level
+
+-- whether the name is that of this reason
+abbrev pub is_reason : Name → Option Name → Bool
+is_reason name None = false
+is_reason name (Some reason) = same_name reason name
+
+-- whether the name is that of the conflict, or of the reason of an entry whose variable is met under these names
+abbrev pub is_led_to : (Name → Option (List Literal)) → List Entry → Name → List Name → Name → Bool
+is_led_to look trail conflict names name =
+    same_name name conflict || list_any (λ e. is_reason name e.reason && is_met look names e.lit.variable) trail

@@ -5,9 +5,9 @@
 pub use clause::Clause;
 pub use formula::Formula;
 pub use laws::lesson::{
-    law_conflict_has_two_literals, law_conflict_refutes, law_few_hints, law_hints_are_distinct,
-    law_lesson_follows, law_lesson_is_asserting, law_lesson_literals, law_root_lesson_is_empty,
-    law_small_lesson, law_touched_variables,
+    law_conflict_has_two_literals, law_conflict_refutes, law_hints_are_distinct,
+    law_hints_are_reasons, law_lesson_follows, law_lesson_is_asserting, law_lesson_literals,
+    law_root_lesson_is_empty, law_small_lesson, law_touched_variables,
 };
 pub use laws::name::law_names_are_ordered;
 pub use laws::proof::{

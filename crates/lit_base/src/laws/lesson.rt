@@ -1,6 +1,6 @@
 //! Laws of the analysis of conflicts.
 ghost use Rattle.std.specs.Prelude.{◌≡◌, ◌==◌, ◌<◌, ◌≤◌, ◌+◌, ◌↔◌, ℕ, true, List, [], ◌∷◌, length, Option, Some, All, Contains, IsTrue};
-ghost use Rattle.std.specs.List.{IsDistinct};
+ghost use Rattle.std.specs.List.{AllByRecursion, IsDistinct};
 ghost use Rattle.lit_base.specs.Literal.{Literal, IsWithin, same};
 ghost use Rattle.lit_base.specs.Cnf.{Cnf};
 ghost use Rattle.lit_base.specs.declared.trail.Entry.{Entry};
@@ -10,7 +10,7 @@ ghost use Rattle.lit_base.specs.Rounds.{original, originals, is_falsified};
 ghost use Rattle.lit_base.specs.Named.{same_name, lits_at};
 ghost use Rattle.lit_base.specs.Walk.{FollowsByHints};
 ghost use Rattle.lit_base.specs.Fits.{HasDistinctVariables, FitsClauses, IsLeveled, IsConflict, IsFitting};
-ghost use Rattle.lit_base.specs.Analysis.{lesson_of, is_met, IsAboveRoot};
+ghost use Rattle.lit_base.specs.Analysis.{lesson_of, is_met, is_led_to, IsAboveRoot};
 ghost use Rattle.lit_base.specs.Judgement.{Checks, HasNoModel};
 ghost use Rattle.lit_base.specs.Refutation.{propagated, refutation_of};
 ghost use Rattle.lit_base.specs.Examples.{plain, forked, forked_trail};
@@ -96,7 +96,12 @@ pub fn law_touched_variables()
     ensures few { OfEachLesson (λ variables look trail lesson. length lesson.touched ≤ variables) }
 {}
 
-/// A lesson has at most one hint more than there are variables.
-pub fn law_few_hints()
-    ensures { OfEachLesson (λ variables look trail lesson. length lesson.hints ≤ variables + 1) }
+/// Each hint of a lesson is the conflict or the reason of an entry of the trail whose variable has
+/// a literal in a clause that a hint names. A lesson has at most one hint more than there are
+/// variables.
+pub fn law_hints_are_reasons()
+    ensures reasons { (look : Name → Option (List Literal)) (trail : List Entry) (conflict : Name) →
+        let hints = (lesson_of look trail conflict).hints in
+        AllByRecursion (λ hint. IsTrue (is_led_to look trail conflict hints hint)) hints }
+    ensures few { OfEachLesson (λ variables look trail lesson. length lesson.hints ≤ variables + 1) }
 {}
