@@ -7,7 +7,8 @@ use Rattle.desk_io.specs.declared.Slot.TheVariants.{Formula}
 use Rattle.cnf_text.specs.declared.fault.CnfFault.{CnfFault}
 use Rattle.cnf_text.specs.declared.fault.CnfFault.TheVariants as cnf
 use Rattle.cnf_text.specs.State.{ReaderState}
-use Rattle.cnf_text.specs.Reading.{HasRead, Ends, early_fault, is_ended, formula_of}
+use Rattle.cnf_text.specs.Reading.{early_fault, is_ended, formula_of}
+use Rattle.cnf_text.specs.Reader.{HasRead, Ends}
 use Rattle.cnf_text.proofs.Fed.{has_read_short, has_no_early_fault}
 use Rattle.dp2ll.specs.declared.ending.Ending.{Ending}
 use Rattle.dp2ll.specs.declared.ending.Ending.TheVariants.{Satisfiable, Unsatisfiable, LeftOpen, Usage, NoFormula, ReadFault, LogFault, AnswerFault, NoMemory}
