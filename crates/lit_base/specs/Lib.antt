@@ -13,6 +13,7 @@ pub mod Judgement
 pub mod Named
 pub mod Held
 pub mod Fits
+pub mod Order
 pub mod Quiet
 pub mod Analysis
 pub mod Refutation
