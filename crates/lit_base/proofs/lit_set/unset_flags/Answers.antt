@@ -1,5 +1,4 @@
 use Rattle.std.proofs.Common.{◌<◌, length, arith}
-use Rattle.lit_base.specs.LitSet.{index_of}
 use Rattle.lit_base.proofs.Flags.{flag_there, unset_more, all_unset}
 use Rattle.lit_base.proofs.lit_set.unset_flags.Goals as goal
 
