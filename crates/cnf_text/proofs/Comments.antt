@@ -49,6 +49,12 @@ abbrev later_result : Result Scan CnfFault → Result Scan CnfFault
 later_result (Ok s) = Ok (later s)
 later_result (Err fault) = Err (later_fault fault)
 
+-- a test that finds a fault, one line further down
+test_later : {A : Type 0} (t : Bool) (fault below : CnfFault) (next : A) → below ≡ later_fault fault → cond t (Err below) (Ok next) ≡ err_later (cond t (Err fault) (Ok next))
+unfolding later_fault
+test_later true fault below next is = ap (λ (f : CnfFault). Err f) is
+test_later false fault below next is = refl
+
 literal_later : (p : ProgressState) (positive : Bool) (v line : ℕ) → judge_literal p positive v (line + 1) ≡ err_later (judge_literal p positive v line)
 unfolding later_fault
 literal_later p positive v line = by (ltb p.formula.variables v) (leb p.limit (length p.formula.clauses)) (leb 8000000 p.count)
@@ -65,11 +71,7 @@ literal_later p positive v line = by (ltb p.formula.variables v) (leb p.limit (l
 
 clause_end_later : (p : ProgressState) (line : ℕ) → judge_end p (line + 1) ≡ err_later (judge_end p line)
 unfolding later_fault
-clause_end_later p line = by (leb p.limit (length p.formula.clauses)) _
-  where
-    by : (t : Bool) (next : ProgressState) → cond t (Err (TooManyClauses (line + 1))) (Ok next) ≡ err_later (cond t (Err (TooManyClauses line)) (Ok next))
-    by true next = refl
-    by false next = refl
+clause_end_later p line = test_later (leb p.limit (length p.formula.clauses)) (TooManyClauses line) _ _ refl
 
 number_later : (p : ProgressState) (positive : Bool) (v line : ℕ) → judge_number p positive v (line + 1) ≡ err_later (judge_number p positive v line)
 unfolding later_fault
@@ -97,20 +99,12 @@ class_later AfterMagic Other p line = refl
 class_later AfterFormat Magic p line = refl
 class_later AfterFormat Format p line = refl
 class_later AfterFormat (Number false v) p line = refl
-class_later AfterFormat (Number true v) p line = by (ltb 1000000 v) _
-  where
-    by : (t : Bool) (next : ProgressState) → cond t (Err (OverLimit Variables (line + 1))) (Ok next) ≡ err_later (cond t (Err (OverLimit Variables line)) (Ok next))
-    by true next = refl
-    by false next = refl
+class_later AfterFormat (Number true v) p line = test_later (ltb 1000000 v) (OverLimit Variables line) _ _ refl
 class_later AfterFormat Other p line = refl
 class_later AfterVariables Magic p line = refl
 class_later AfterVariables Format p line = refl
 class_later AfterVariables (Number false v) p line = refl
-class_later AfterVariables (Number true v) p line = by (ltb 4000000 v) _
-  where
-    by : (t : Bool) (next : ProgressState) → cond t (Err (OverLimit Clauses (line + 1))) (Ok next) ≡ err_later (cond t (Err (OverLimit Clauses line)) (Ok next))
-    by true next = refl
-    by false next = refl
+class_later AfterVariables (Number true v) p line = test_later (ltb 4000000 v) (OverLimit Clauses line) _ _ refl
 class_later AfterVariables Other p line = refl
 class_later AfterClauses class p line = refl
 class_later Body Magic p line = refl

@@ -6,13 +6,13 @@ use Rattle.cnf_text.specs.declared.fault.CnfFault.TheVariants.{TooLong}
 use Rattle.cnf_text.specs.declared.scan.Place.{Place}
 use Rattle.cnf_text.specs.declared.scan.Place.TheVariants.{LineStart, Comment, Tokens, Ended}
 use Rattle.cnf_text.specs.declared.scan.Scan.{Scan}
-use Rattle.cnf_text.specs.Cut.{Parts, cut}
+use Rattle.cnf_text.specs.Parts.{Parts, parts_of}
 use Rattle.cnf_text.specs.Faults.{on_ok}
 use Rattle.cnf_text.specs.Pieces.{is_line_feed, is_blank, mark_of, is_end, has_end, last_line}
 use Rattle.cnf_text.specs.Progress.{ProgressState}
 use Rattle.cnf_text.specs.Judge.{judge_token, judge_line_end}
 use Rattle.cnf_text.specs.Machine.{end_token, end_line, push_byte, step_at_start, step_in_comment, step_in_tokens, step_at, step, steps}
-use Rattle.cnf_text.proofs.Lexing.{cut_is, with_byte, solid_no_feed}
+use Rattle.cnf_text.proofs.Lexing.{parts_of_is, with_byte, solid_no_feed}
 
 -- whether a line ends the input, and the line of the end
 pub record Ending : Type 0 where
@@ -62,15 +62,15 @@ other_first line b bytes others t solid is =
 
 -- the reader stands where the ending of each rest is this one
 abbrev pub StandsAt : Place → ℕ → (List ℕ → Ending) → Type 0
-StandsAt place line k = (rest : List ℕ) → k rest ≡ ending_at place line (cut is_line_feed rest)
+StandsAt place line k = (rest : List ℕ) → k rest ≡ ending_at place line (parts_of is_line_feed rest)
 
 abbrev pub Stands : Result Scan CnfFault → (List ℕ → Ending) → Type 0
 Stands (Ok s) k = StandsAt s.place s.line k
 Stands (Err fault) k = Unit {0}
 
 ahead : (place : Place) (line : ℕ) (k : List ℕ → Ending) (b : ℕ) (t : Bool) → StandsAt place line k → is_line_feed b ≡ t
-    → (rest : List ℕ) → k (b ∷ rest) ≡ ending_at place line (with_byte t b (cut is_line_feed rest))
-ahead place line k b t is feed rest = is (b ∷ rest) ∙ ap (ending_at place line) (cut_is is_line_feed b rest t feed)
+    → (rest : List ℕ) → k (b ∷ rest) ≡ ending_at place line (with_byte t b (parts_of is_line_feed rest))
+ahead place line k b t is feed rest = is (b ∷ rest) ∙ ap (ending_at place line) (parts_of_is is_line_feed b rest t feed)
 
 line_end_stands : (s : Scan) (k : List ℕ → Ending) → StandsAt LineStart (s.line + 1) k → Stands (end_line s) k
 line_end_stands s k is = by (judge_line_end s.progress.stage s.progress s.line)
@@ -82,8 +82,8 @@ line_end_stands s k is = by (judge_line_end s.progress.stage s.progress s.line)
 at_start : (s : Scan) (k : List ℕ → Ending) (b : ℕ) → s.place ≡ LineStart → StandsAt LineStart s.line k → Stands (step_at_start s b) (λ rest. k (b ∷ rest))
 at_start s k b place is = by_feed (is_line_feed b) refl
   where
-    other : (t : Bool) → is_line_feed b ≡ false → is_blank b ≡ false → (b == 37) ≡ t → (rest : List ℕ) → k (b ∷ rest) ≡ ending_by t s.line (cut is_line_feed rest).others
-    other t feed solid end rest = ahead LineStart s.line k b false is feed rest ∙ other_first s.line b (cut is_line_feed rest).first (cut is_line_feed rest).others t solid end
+    other : (t : Bool) → is_line_feed b ≡ false → is_blank b ≡ false → (b == 37) ≡ t → (rest : List ℕ) → k (b ∷ rest) ≡ ending_by t s.line (parts_of is_line_feed rest).others
+    other t feed solid end rest = ahead LineStart s.line k b false is feed rest ∙ other_first s.line b (parts_of is_line_feed rest).first (parts_of is_line_feed rest).others t solid end
 
     by_end : (t : Bool) → (b == 37) ≡ t → is_line_feed b ≡ false → is_blank b ≡ false → Stands (cond t (Ok (record s { place = Ended })) (Ok (record s { place = Tokens; token = b ∷ [] }))) (λ rest. k (b ∷ rest))
     by_end true end feed solid = other true feed solid end
@@ -97,8 +97,8 @@ at_start s k b place is = by_feed (is_line_feed b) refl
     by_blank : (t : Bool) → is_blank b ≡ t → is_line_feed b ≡ false
         → Stands (cond t (Ok s) (cond (b == 99) (Ok (record s { place = Comment })) (cond (b == 37) (Ok (record s { place = Ended })) (Ok (record s { place = Tokens; token = b ∷ [] }))))) (λ rest. k (b ∷ rest))
     by_blank true blank feed = λ rest.
-        ahead LineStart s.line k b false is feed rest ∙ blank_first s.line b (cut is_line_feed rest).first (cut is_line_feed rest).others blank
-        ∙ ap (λ p. ending_at p s.line (cut is_line_feed rest)) (sym place)
+        ahead LineStart s.line k b false is feed rest ∙ blank_first s.line b (parts_of is_line_feed rest).first (parts_of is_line_feed rest).others blank
+        ∙ ap (λ p. ending_at p s.line (parts_of is_line_feed rest)) (sym place)
     by_blank false solid feed = by_comment (b == 99) refl feed solid
 
     by_feed : (t : Bool) → is_line_feed b ≡ t
@@ -111,13 +111,13 @@ in_comment s k b place is = by (is_line_feed b) refl
   where
     by : (t : Bool) → is_line_feed b ≡ t → Stands (cond t (end_line s) (Ok s)) (λ rest. k (b ∷ rest))
     by true feed = line_end_stands s (λ rest. k (b ∷ rest)) (ahead Comment s.line k b true is feed)
-    by false feed = λ rest. ahead Comment s.line k b false is feed rest ∙ ap (λ p. ending_at p s.line (cut is_line_feed rest)) (sym place)
+    by false feed = λ rest. ahead Comment s.line k b false is feed rest ∙ ap (λ p. ending_at p s.line (parts_of is_line_feed rest)) (sym place)
 
 in_tokens : (s : Scan) (k : List ℕ → Ending) (b : ℕ) → s.place ≡ Tokens → StandsAt Tokens s.line k → Stands (step_in_tokens s b) (λ rest. k (b ∷ rest))
 in_tokens s k b place is = by_blank (is_blank b) refl
   where
     stays : is_line_feed b ≡ false → StandsAt s.place s.line (λ rest. k (b ∷ rest))
-    stays feed rest = ahead Tokens s.line k b false is feed rest ∙ ap (λ p. ending_at p s.line (cut is_line_feed rest)) (sym place)
+    stays feed rest = ahead Tokens s.line k b false is feed rest ∙ ap (λ p. ending_at p s.line (parts_of is_line_feed rest)) (sym place)
 
     feeds : (r : Result ProgressState CnfFault) → is_line_feed b ≡ true → Stands (on_ok (on_ok r (λ p. Ok (record s { token = []; progress = p }))) end_line) (λ rest. k (b ∷ rest))
     feeds (Ok p) feed = line_end_stands (record s { token = []; progress = p }) (λ rest. k (b ∷ rest)) (ahead Tokens s.line k b true is feed)
@@ -143,7 +143,7 @@ step_by : (place : Place) (s : Scan) (k : List ℕ → Ending) (b : ℕ) → s.p
 step_by LineStart s k b at is = at_start s k b at is
 step_by Comment s k b at is = in_comment s k b at is
 step_by Tokens s k b at is = in_tokens s k b at is
-step_by Ended s k b at is = λ rest. is (b ∷ rest) ∙ sym (ap (λ p. ending_at p s.line (cut is_line_feed rest)) at)
+step_by Ended s k b at is = λ rest. is (b ∷ rest) ∙ sym (ap (λ p. ending_at p s.line (parts_of is_line_feed rest)) at)
 
 -- the steps keep the ending
 pub steps_stand : (s : Scan) (k : List ℕ → Ending) (bytes : List ℕ) → StandsAt s.place s.line k → Stands (steps s bytes) (λ rest. k (bytes ++ rest))

@@ -9,14 +9,15 @@ use Rattle.cnf_text.specs.declared.fault.Which.TheVariants.{Bytes}
 use Rattle.cnf_text.specs.declared.scan.Place.{Place}
 use Rattle.cnf_text.specs.declared.scan.Place.TheVariants.{LineStart, Comment, Tokens, Ended}
 use Rattle.cnf_text.specs.declared.scan.Scan.{Scan}
-use Rattle.cnf_text.specs.Cut.{cut}
+use Rattle.cnf_text.specs.Parts.{parts_of}
 use Rattle.cnf_text.specs.Faults.{OnFault, on_ok, fault_of, Gives}
 use Rattle.cnf_text.specs.Pieces.{is_line_feed}
 use Rattle.cnf_text.specs.Progress.{ProgressState}
 use Rattle.cnf_text.specs.Judge.{judge, finish}
 use Rattle.cnf_text.specs.State.{ReaderState}
 use Rattle.cnf_text.specs.Machine.{start, step, step_at, steps, is_ended_at, ends_at, room_of, ReadsAll, ReadsTooMany, FaultOn}
-use Rattle.cnf_text.specs.Reading.{within, is_ended, end_line_of, judged, byte_fault, first_fault, early_fault, unless, formula_of, HasRead}
+use Rattle.cnf_text.specs.Reading.{within, is_ended, end_line_of, judged, byte_fault, first_fault, early_fault, unless, formula_of}
+use Rattle.cnf_text.specs.Reader.{HasRead}
 use Rattle.cnf_text.proofs.Results.{on_ok-assoc, on_ok-same, OnFault-weaker, gives_same}
 use Rattle.cnf_text.proofs.Follow.{Continues, Follows, steps_follow, judge_at_place}
 use Rattle.cnf_text.proofs.Endings.{Ending, ending_at, Stands, steps_stand}
@@ -64,12 +65,12 @@ pub ending_of : List ℕ → Ending
 ending_of bytes = record { ended = is_ended bytes; line = end_line_of bytes }
 
 -- the ending of a text and what follows, by the steps over the text
-pub standing : (bytes : List ℕ) (s : Scan) → steps start bytes ≡ Ok s → (rest : List ℕ) → ending_of (bytes ++ rest) ≡ ending_at s.place s.line (cut is_line_feed rest)
+pub standing : (bytes : List ℕ) (s : Scan) → steps start bytes ≡ Ok s → (rest : List ℕ) → ending_of (bytes ++ rest) ≡ ending_at s.place s.line (parts_of is_line_feed rest)
 unfolding ending_of is_ended end_line_of
 standing bytes s is = by (steps start bytes) is (steps_stand start ending_of bytes (λ rest. refl))
   where
-    by : (r : Result Scan CnfFault) → r ≡ Ok s → Stands r (λ rest. ending_of (bytes ++ rest)) → (rest : List ℕ) → ending_of (bytes ++ rest) ≡ ending_at s.place s.line (cut is_line_feed rest)
-    by (Ok t) same stands rest = let at : t ≡ s = cc in stands rest ∙ ap (λ (u : Scan). ending_at u.place u.line (cut is_line_feed rest)) at
+    by : (r : Result Scan CnfFault) → r ≡ Ok s → Stands r (λ rest. ending_of (bytes ++ rest)) → (rest : List ℕ) → ending_of (bytes ++ rest) ≡ ending_at s.place s.line (parts_of is_line_feed rest)
+    by (Ok t) same stands rest = let at : t ≡ s = cc in stands rest ∙ ap (λ (u : Scan). ending_at u.place u.line (parts_of is_line_feed rest)) at
     by (Err fault) same stands rest = cc
 
 ending_here : (bytes : List ℕ) (s : Scan) → steps start bytes ≡ Ok s → ending_of bytes ≡ record { ended = is_ended_at s.place; line = s.line }
@@ -94,7 +95,7 @@ pub ended_with_more : (bytes rest : List ℕ) (s : Scan) → steps start bytes �
 unfolding ending_of
 ended_with_more bytes rest s is ended = ap (λ (e : Ending). e.ended) (standing bytes s is rest) ∙ by s.place ended
   where
-    by : (place : Place) → is_ended_at place ≡ true → (ending_at place s.line (cut is_line_feed rest)).ended ≡ true
+    by : (place : Place) → is_ended_at place ≡ true → (ending_at place s.line (parts_of is_line_feed rest)).ended ≡ true
     by LineStart at = cc
     by Comment at = cc
     by Tokens at = cc
@@ -229,44 +230,44 @@ done_is reader bytes read = by (is_ended_at reader.scan.place) refl
     by false at = sym at ∙ sym (ended_here (within bytes) reader.scan read.scanned) ∙ ap is_ended (within_all bytes (read.room at))
 
 -- a piece that was read on
-pub fed_ok : (old new : ReaderState) (bytes piece : List ℕ) → HasRead old bytes → new.fault ≡ old.fault → new.read ≡ old.read + length (room_of old.read piece)
-    → ReadsAll old.scan old.read piece new.scan → HasRead new (bytes ++ piece) × (early_fault (bytes ++ piece) ≡ None)
+pub fed_ok : (before after : ReaderState) (bytes piece : List ℕ) → HasRead before bytes → after.fault ≡ before.fault → after.read ≡ before.read + length (room_of before.read piece)
+    → ReadsAll before.scan before.read piece after.scan → HasRead after (bytes ++ piece) × (early_fault (bytes ++ piece) ≡ None)
 unfolding HasRead
-fed_ok old new bytes piece read fault count all = (record { scanned = scanned; counted = counted; room = room; sound = fault ∙ read.sound }, no_fault (bytes ++ piece) new.scan scanned room)
+fed_ok before after bytes piece read fault count all = (record { scanned = scanned; counted = counted; room = room; sound = fault ∙ read.sound }, no_fault (bytes ++ piece) after.scan scanned room)
   where
-    scanned : steps start (within (bytes ++ piece)) ≡ Ok new.scan
-    scanned = steps_more bytes piece old.scan read.scanned ∙ ap (λ n. steps old.scan (room_of n piece)) (sym read.counted) ∙ all.scanned
+    scanned : steps start (within (bytes ++ piece)) ≡ Ok after.scan
+    scanned = steps_more bytes piece before.scan read.scanned ∙ ap (λ n. steps before.scan (room_of n piece)) (sym read.counted) ∙ all.scanned
 
-    counted : new.read ≡ length (within (bytes ++ piece))
+    counted : after.read ≡ length (within (bytes ++ piece))
     counted =
         count ∙ ap (λ n. n + length (room_of n piece)) read.counted
         ∙ sym (ap length (within_more bytes piece) ∙ length-append (within bytes) (room_of (length (within bytes)) piece))
 
-    by : (t : Bool) → is_ended_at old.scan.place ≡ t → is_ended_at new.scan.place ≡ false → length (bytes ++ piece) ≤ 268435456
+    by : (t : Bool) → is_ended_at before.scan.place ≡ t → is_ended_at after.scan.place ≡ false → length (bytes ++ piece) ≤ 268435456
     by true ended going =
-        let same : Ok old.scan ≡ Ok new.scan = sym (ended_stays old.scan (room_of old.read piece) ended) ∙ all.scanned in
-        let at : old.scan ≡ new.scan = cc in
-        let still : is_ended_at new.scan.place ≡ true = ap (λ (s : Scan). is_ended_at s.place) (sym at) ∙ ended in
+        let same : Ok before.scan ≡ Ok after.scan = sym (ended_stays before.scan (room_of before.read piece) ended) ∙ all.scanned in
+        let at : before.scan ≡ after.scan = cc in
+        let still : is_ended_at after.scan.place ≡ true = ap (λ (s : Scan). is_ended_at s.place) (sym at) ∙ ended in
         cc
-    by false before going =
-        omega (arith, length-append bytes piece, read.counted, within_length bytes, read.room before, all.room going)
+    by false unended going =
+        omega (arith, length-append bytes piece, read.counted, within_length bytes, read.room unended, all.room going)
 
-    room : is_ended_at new.scan.place ≡ false → length (bytes ++ piece) ≤ 268435456
-    room = by (is_ended_at old.scan.place) refl
+    room : is_ended_at after.scan.place ≡ false → length (bytes ++ piece) ≤ 268435456
+    room = by (is_ended_at before.scan.place) refl
 
 -- a fault of reading on is the first of the bytes so far
-fed_fault : (old : ReaderState) (bytes piece : List ℕ) (fault : CnfFault) → HasRead old bytes
-    → ((steps old.scan (room_of old.read piece) ≡ Err fault) ⊎ ((line : ℕ) × (fault ≡ OverLimit Bytes line) × ReadsTooMany old.scan old.read piece line)) → early_fault (bytes ++ piece) ≡ Some fault
+fed_fault : (before : ReaderState) (bytes piece : List ℕ) (fault : CnfFault) → HasRead before bytes
+    → ((steps before.scan (room_of before.read piece) ≡ Err fault) ⊎ ((line : ℕ) × (fault ≡ OverLimit Bytes line) × ReadsTooMany before.scan before.read piece line)) → early_fault (bytes ++ piece) ≡ Some fault
 unfolding HasRead
-fed_fault old bytes piece fault read how = elim how [
+fed_fault before bytes piece fault read how = elim how [
   | inl is ↦ early_err (bytes ++ piece) fault (more ∙ is)
   | inr over ↦ too_many over.0 over.1 over.2
 ]
   where
-    more : steps start (within (bytes ++ piece)) ≡ steps old.scan (room_of old.read piece)
-    more = steps_more bytes piece old.scan read.scanned ∙ ap (λ n. steps old.scan (room_of n piece)) (sym read.counted)
+    more : steps start (within (bytes ++ piece)) ≡ steps before.scan (room_of before.read piece)
+    more = steps_more bytes piece before.scan read.scanned ∙ ap (λ n. steps before.scan (room_of n piece)) (sym read.counted)
 
-    too_many : (line : ℕ) → fault ≡ OverLimit Bytes line → ReadsTooMany old.scan old.read piece line → early_fault (bytes ++ piece) ≡ Some fault
+    too_many : (line : ℕ) → fault ≡ OverLimit Bytes line → ReadsTooMany before.scan before.read piece line → early_fault (bytes ++ piece) ≡ Some fault
     too_many line is over =
         let scanned : steps start (within (bytes ++ piece)) ≡ Ok over.end = more ∙ over.scanned in
         let long : 268435456 < length (bytes ++ piece) = omega (arith, length-append bytes piece, read.counted, within_length bytes, over.long) in
@@ -275,10 +276,10 @@ fed_fault old bytes piece fault read how = elim how [
         ∙ ap (λ n. Some (OverLimit Bytes n)) (line_here (within (bytes ++ piece)) over.end scanned ∙ sym over.at)
         ∙ ap (λ (f : CnfFault). Some f) (sym is)
 
-pub fed_err : (old : ReaderState) (bytes piece : List ℕ) (fault : CnfFault) → HasRead old bytes → FaultOn old.scan old.read piece fault → OnFault fault (early_fault (bytes ++ piece) ≡ Some fault)
-fed_err old bytes piece fault read owes =
-    OnFault-weaker fault ((steps old.scan (room_of old.read piece) ≡ Err fault) ⊎ ((line : ℕ) × (fault ≡ OverLimit Bytes line) × ReadsTooMany old.scan old.read piece line))
-    (early_fault (bytes ++ piece) ≡ Some fault) (fed_fault old bytes piece fault read) owes
+pub fed_err : (before : ReaderState) (bytes piece : List ℕ) (fault : CnfFault) → HasRead before bytes → FaultOn before.scan before.read piece fault → OnFault fault (early_fault (bytes ++ piece) ≡ Some fault)
+fed_err before bytes piece fault read owes =
+    OnFault-weaker fault ((steps before.scan (room_of before.read piece) ≡ Err fault) ⊎ ((line : ℕ) × (fault ≡ OverLimit Bytes line) × ReadsTooMany before.scan before.read piece line))
+    (early_fault (bytes ++ piece) ≡ Some fault) (fed_fault before bytes piece fault read) owes
 
 -- the answer of the end
 pub ended : (reader : ReaderState) (bytes : List ℕ) (answer : Result Cnf CnfFault) → HasRead reader bytes → Gives answer (ends_at reader.scan) → Gives answer (formula_of bytes)

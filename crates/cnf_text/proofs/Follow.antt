@@ -6,13 +6,13 @@ use Rattle.cnf_text.specs.declared.fault.CnfFault.TheVariants.{TooLong}
 use Rattle.cnf_text.specs.declared.scan.Place.{Place}
 use Rattle.cnf_text.specs.declared.scan.Place.TheVariants.{LineStart, Comment, Tokens, Ended}
 use Rattle.cnf_text.specs.declared.scan.Scan.{Scan}
-use Rattle.cnf_text.specs.Cut.{Parts, cut}
+use Rattle.cnf_text.specs.Parts.{Parts, parts_of}
 use Rattle.cnf_text.specs.Faults.{on_ok}
 use Rattle.cnf_text.specs.Pieces.{is_line_feed, is_blank, pieces}
 use Rattle.cnf_text.specs.Progress.{ProgressState}
 use Rattle.cnf_text.specs.Judge.{judge, judge_token, judge_line_end}
 use Rattle.cnf_text.specs.Machine.{end_token, end_line, push_byte, step_at_start, step_in_comment, step_in_tokens, step_at, step, steps}
-use Rattle.cnf_text.proofs.Lexing.{pieces_at, open_tokens, closing, is_more, cut_is, with_byte, blank_at_start, comment_at_start, end_at_start, token_at_start, blank_in_tokens, byte_in_tokens, long_token, line_feed_in_tokens, solid_no_feed}
+use Rattle.cnf_text.proofs.Lexing.{pieces_at, open_tokens, closing, is_more, parts_of_is, with_byte, blank_at_start, comment_at_start, end_at_start, token_at_start, blank_in_tokens, byte_in_tokens, long_token, line_feed_in_tokens, solid_no_feed}
 
 -- what the lines of a text are judged as, where the reader stands here in front of them
 abbrev pub judge_at_place : Place → Scan → Parts → Result ProgressState CnfFault
@@ -21,7 +21,7 @@ judge_at_place place s lines = judge s.progress (pieces_at place s.line s.token 
 -- the reader stands where the judgement of each rest goes on
 pub record Continues (s : Scan) (k : List ℕ → Result ProgressState CnfFault) : Type 0 where
   pub short : length s.token ≤ 64
-  pub same : (rest : List ℕ) → k rest ≡ judge_at_place s.place s (cut is_line_feed rest)
+  pub same : (rest : List ℕ) → k rest ≡ judge_at_place s.place s (parts_of is_line_feed rest)
 
 -- the steps led to where the judgement goes on, or to its fault
 abbrev pub Follows : Result Scan CnfFault → (List ℕ → Result ProgressState CnfFault) → Type 0
@@ -39,21 +39,21 @@ judged_follows (Ok p) next k l is follows = follows_same (next p) k (l p) is (fo
 judged_follows (Err fault) next k l is follows = is
 
 line_end_follows : (s : Scan) (k : List ℕ → Result ProgressState CnfFault)
-    → ((rest : List ℕ) → k rest ≡ on_ok (judge_line_end s.progress.stage s.progress s.line) (λ p. judge p (pieces (s.line + 1) (cut is_line_feed rest).first (cut is_line_feed rest).others)))
+    → ((rest : List ℕ) → k rest ≡ on_ok (judge_line_end s.progress.stage s.progress s.line) (λ p. judge p (pieces (s.line + 1) (parts_of is_line_feed rest).first (parts_of is_line_feed rest).others)))
     → Follows (end_line s) k
 line_end_follows s k is =
     judged_follows (judge_line_end s.progress.stage s.progress s.line) (λ p. Ok (record { line = s.line + 1; place = LineStart; token = []; progress = p })) k
-    (λ p rest. judge p (pieces (s.line + 1) (cut is_line_feed rest).first (cut is_line_feed rest).others)) is
+    (λ p rest. judge p (pieces (s.line + 1) (parts_of is_line_feed rest).first (parts_of is_line_feed rest).others)) is
     (λ p. record { short = omega arith; same = λ rest. refl })
 
 -- what the rest is, as the steps have come to this place
 abbrev Is : Place → Scan → (List ℕ → Result ProgressState CnfFault) → Type 0
-Is place s k = (rest : List ℕ) → k rest ≡ judge_at_place place s (cut is_line_feed rest)
+Is place s k = (rest : List ℕ) → k rest ≡ judge_at_place place s (parts_of is_line_feed rest)
 
 -- with one byte in front
 ahead : (place : Place) (s : Scan) (k : List ℕ → Result ProgressState CnfFault) (b : ℕ) (t : Bool) → Is place s k → is_line_feed b ≡ t
-    → (rest : List ℕ) → k (b ∷ rest) ≡ judge_at_place place s (with_byte t b (cut is_line_feed rest))
-ahead place s k b t is feed rest = is (b ∷ rest) ∙ ap (judge_at_place place s) (cut_is is_line_feed b rest t feed)
+    → (rest : List ℕ) → k (b ∷ rest) ≡ judge_at_place place s (with_byte t b (parts_of is_line_feed rest))
+ahead place s k b t is feed rest = is (b ∷ rest) ∙ ap (judge_at_place place s) (parts_of_is is_line_feed b rest t feed)
 
 at_start : (s : Scan) (k : List ℕ → Result ProgressState CnfFault) (b : ℕ) → s.place ≡ LineStart → length s.token ≤ 64 → Is LineStart s k → Follows (step_at_start s b) (λ rest. k (b ∷ rest))
 at_start s k b place short is = by_feed (is_line_feed b) refl
@@ -62,18 +62,18 @@ at_start s k b place short is = by_feed (is_line_feed b) refl
         → Follows (cond t (Ok (record s { place = Ended })) (Ok (record s { place = Tokens; token = b ∷ [] }))) (λ rest. k (b ∷ rest))
     by_end true end feed solid comment = record {
       short = short;
-      same = λ rest. ahead LineStart s k b false is feed rest ∙ ap (judge s.progress) (end_at_start s.line b (cut is_line_feed rest).first (cut is_line_feed rest).others solid end);
+      same = λ rest. ahead LineStart s k b false is feed rest ∙ ap (judge s.progress) (end_at_start s.line b (parts_of is_line_feed rest).first (parts_of is_line_feed rest).others solid end);
     }
     by_end false end feed solid comment = record {
       short = omega arith;
-      same = λ rest. ahead LineStart s k b false is feed rest ∙ ap (judge s.progress) (token_at_start s.line b (cut is_line_feed rest).first (cut is_line_feed rest).others solid comment end);
+      same = λ rest. ahead LineStart s k b false is feed rest ∙ ap (judge s.progress) (token_at_start s.line b (parts_of is_line_feed rest).first (parts_of is_line_feed rest).others solid comment end);
     }
 
     by_comment : (t : Bool) → (b == 99) ≡ t → is_line_feed b ≡ false → is_blank b ≡ false
         → Follows (cond t (Ok (record s { place = Comment })) (cond (b == 37) (Ok (record s { place = Ended })) (Ok (record s { place = Tokens; token = b ∷ [] })))) (λ rest. k (b ∷ rest))
     by_comment true comment feed solid = record {
       short = short;
-      same = λ rest. ahead LineStart s k b false is feed rest ∙ ap (judge s.progress) (comment_at_start s.line b (cut is_line_feed rest).first (cut is_line_feed rest).others solid comment);
+      same = λ rest. ahead LineStart s k b false is feed rest ∙ ap (judge s.progress) (comment_at_start s.line b (parts_of is_line_feed rest).first (parts_of is_line_feed rest).others solid comment);
     }
     by_comment false comment feed solid = by_end (b == 37) refl feed solid comment
 
@@ -81,8 +81,8 @@ at_start s k b place short is = by_feed (is_line_feed b) refl
         → Follows (cond t (Ok s) (cond (b == 99) (Ok (record s { place = Comment })) (cond (b == 37) (Ok (record s { place = Ended })) (Ok (record s { place = Tokens; token = b ∷ [] }))))) (λ rest. k (b ∷ rest))
     by_blank true blank feed = record {
       short = short;
-      same = λ rest. ahead LineStart s k b false is feed rest ∙ blank_at_start s.progress s.line b (cut is_line_feed rest).first (cut is_line_feed rest).others blank
-          ∙ ap (λ p. judge_at_place p s (cut is_line_feed rest)) (sym place);
+      same = λ rest. ahead LineStart s k b false is feed rest ∙ blank_at_start s.progress s.line b (parts_of is_line_feed rest).first (parts_of is_line_feed rest).others blank
+          ∙ ap (λ p. judge_at_place p s (parts_of is_line_feed rest)) (sym place);
     }
     by_blank false solid feed = by_comment (b == 99) refl feed solid
 
@@ -98,42 +98,42 @@ in_comment s k b place short is = by (is_line_feed b) refl
     by true feed = line_end_follows s (λ rest. k (b ∷ rest)) (ahead Comment s k b true is feed)
     by false feed = record {
       short = short;
-      same = λ rest. ahead Comment s k b false is feed rest ∙ ap (λ p. judge_at_place p s (cut is_line_feed rest)) (sym place);
+      same = λ rest. ahead Comment s k b false is feed rest ∙ ap (λ p. judge_at_place p s (parts_of is_line_feed rest)) (sym place);
     }
 
 in_tokens : (s : Scan) (k : List ℕ → Result ProgressState CnfFault) (b : ℕ) → s.place ≡ Tokens → length s.token ≤ 64 → Is Tokens s k → Follows (step_in_tokens s b) (λ rest. k (b ∷ rest))
 in_tokens s k b place short is = by_blank (is_blank b) refl
   where
-    closes : (p : ProgressState) → Follows (end_line (record s { token = []; progress = p })) (λ rest. on_ok (judge_line_end p.stage p s.line) (λ q. judge q (pieces (s.line + 1) (cut is_line_feed rest).first (cut is_line_feed rest).others)))
-    closes p = line_end_follows (record s { token = []; progress = p }) (λ rest. on_ok (judge_line_end p.stage p s.line) (λ q. judge q (pieces (s.line + 1) (cut is_line_feed rest).first (cut is_line_feed rest).others))) (λ rest. refl)
+    closes : (p : ProgressState) → Follows (end_line (record s { token = []; progress = p })) (λ rest. on_ok (judge_line_end p.stage p s.line) (λ q. judge q (pieces (s.line + 1) (parts_of is_line_feed rest).first (parts_of is_line_feed rest).others)))
+    closes p = line_end_follows (record s { token = []; progress = p }) (λ rest. on_ok (judge_line_end p.stage p s.line) (λ q. judge q (pieces (s.line + 1) (parts_of is_line_feed rest).first (parts_of is_line_feed rest).others))) (λ rest. refl)
 
     feeds : is_line_feed b ≡ true → Follows (on_ok (on_ok (judge_token s.progress s.token s.line) (λ p. Ok (record s { token = []; progress = p }))) end_line) (λ rest. k (b ∷ rest))
-    feeds feed = through (judge_token s.progress s.token s.line) (λ rest. ahead Tokens s k b true is feed rest ∙ line_feed_in_tokens s.progress s.line s.token (cut is_line_feed rest).first (cut is_line_feed rest).others short)
+    feeds feed = through (judge_token s.progress s.token s.line) (λ rest. ahead Tokens s k b true is feed rest ∙ line_feed_in_tokens s.progress s.line s.token (parts_of is_line_feed rest).first (parts_of is_line_feed rest).others short)
       where
-        through : (r : Result ProgressState CnfFault) → ((rest : List ℕ) → k (b ∷ rest) ≡ on_ok r (λ q. on_ok (judge_line_end q.stage q s.line) (λ u. judge u (pieces (s.line + 1) (cut is_line_feed rest).first (cut is_line_feed rest).others))))
+        through : (r : Result ProgressState CnfFault) → ((rest : List ℕ) → k (b ∷ rest) ≡ on_ok r (λ q. on_ok (judge_line_end q.stage q s.line) (λ u. judge u (pieces (s.line + 1) (parts_of is_line_feed rest).first (parts_of is_line_feed rest).others))))
             → Follows (on_ok (on_ok r (λ p. Ok (record s { token = []; progress = p }))) end_line) (λ rest. k (b ∷ rest))
-        through (Ok p) same = follows_same (end_line (record s { token = []; progress = p })) (λ rest. k (b ∷ rest)) (λ rest. on_ok (judge_line_end p.stage p s.line) (λ q. judge q (pieces (s.line + 1) (cut is_line_feed rest).first (cut is_line_feed rest).others))) same (closes p)
+        through (Ok p) same = follows_same (end_line (record s { token = []; progress = p })) (λ rest. k (b ∷ rest)) (λ rest. on_ok (judge_line_end p.stage p s.line) (λ q. judge q (pieces (s.line + 1) (parts_of is_line_feed rest).first (parts_of is_line_feed rest).others))) same (closes p)
         through (Err fault) same = same
 
     ends : is_line_feed b ≡ false → is_blank b ≡ true → Follows (end_token s) (λ rest. k (b ∷ rest))
     ends feed blank =
         judged_follows (judge_token s.progress s.token s.line) (λ p. Ok (record s { token = []; progress = p })) (λ rest. k (b ∷ rest))
-        (λ p rest. judge p (pieces_at Tokens s.line [] (cut is_line_feed rest)))
-        (λ rest. ahead Tokens s k b false is feed rest ∙ blank_in_tokens s.progress s.line b (is_more (cut is_line_feed rest).others) s.token (cut is_line_feed rest).first (closing s.line (cut is_line_feed rest).others) blank short)
-        (λ p. record { short = omega arith; same = λ rest. ap (λ q. judge p (pieces_at q s.line [] (cut is_line_feed rest))) (sym place) })
+        (λ p rest. judge p (pieces_at Tokens s.line [] (parts_of is_line_feed rest)))
+        (λ rest. ahead Tokens s k b false is feed rest ∙ blank_in_tokens s.progress s.line b (is_more (parts_of is_line_feed rest).others) s.token (parts_of is_line_feed rest).first (closing s.line (parts_of is_line_feed rest).others) blank short)
+        (λ p. record { short = omega arith; same = λ rest. ap (λ q. judge p (pieces_at q s.line [] (parts_of is_line_feed rest))) (sym place) })
 
     grows : (t : Bool) → leb 64 (length s.token) ≡ t → is_line_feed b ≡ false → is_blank b ≡ false
         → Follows (cond t (Err (TooLong s.line)) (Ok (record s { token = s.token ++ b ∷ [] }))) (λ rest. k (b ∷ rest))
     grows true full feed solid = λ rest.
         ahead Tokens s k b false is feed rest
-        ∙ ap (λ xs. judge s.progress (xs ++ closing s.line (cut is_line_feed rest).others)) (ap (open_tokens s.line (is_more (cut is_line_feed rest).others) s.token) (cut_is is_blank b (cut is_line_feed rest).first false solid))
-        ∙ long_token s.progress s.line (is_more (cut is_line_feed rest).others) (s.token ++ b ∷ (cut is_blank (cut is_line_feed rest).first).first) (cut is_blank (cut is_line_feed rest).first).others (closing s.line (cut is_line_feed rest).others)
-        (omega (arith, leb-true 64 (length s.token) full, length-append s.token (b ∷ (cut is_blank (cut is_line_feed rest).first).first)))
+        ∙ ap (λ xs. judge s.progress (xs ++ closing s.line (parts_of is_line_feed rest).others)) (ap (open_tokens s.line (is_more (parts_of is_line_feed rest).others) s.token) (parts_of_is is_blank b (parts_of is_line_feed rest).first false solid))
+        ∙ long_token s.progress s.line (is_more (parts_of is_line_feed rest).others) (s.token ++ b ∷ (parts_of is_blank (parts_of is_line_feed rest).first).first) (parts_of is_blank (parts_of is_line_feed rest).first).others (closing s.line (parts_of is_line_feed rest).others)
+        (omega (arith, leb-true 64 (length s.token) full, length-append s.token (b ∷ (parts_of is_blank (parts_of is_line_feed rest).first).first)))
     grows false room feed solid = record {
       short = omega (arith, leb-false 64 (length s.token) room, length-append s.token (b ∷ []));
       same = λ rest. ahead Tokens s k b false is feed rest
-          ∙ ap (λ xs. judge s.progress (xs ++ closing s.line (cut is_line_feed rest).others)) (byte_in_tokens s.line b (is_more (cut is_line_feed rest).others) s.token (cut is_line_feed rest).first solid)
-          ∙ ap (λ q. judge s.progress (pieces_at q s.line (s.token ++ b ∷ []) (cut is_line_feed rest))) (sym place);
+          ∙ ap (λ xs. judge s.progress (xs ++ closing s.line (parts_of is_line_feed rest).others)) (byte_in_tokens s.line b (is_more (parts_of is_line_feed rest).others) s.token (parts_of is_line_feed rest).first solid)
+          ∙ ap (λ q. judge s.progress (pieces_at q s.line (s.token ++ b ∷ []) (parts_of is_line_feed rest))) (sym place);
     }
 
     by_line : (t : Bool) → is_line_feed b ≡ t → is_blank b ≡ true → Follows (cond t (on_ok (end_token s) end_line) (end_token s)) (λ rest. k (b ∷ rest))
@@ -148,7 +148,7 @@ step_by : (place : Place) (s : Scan) (k : List ℕ → Result ProgressState CnfF
 step_by LineStart s k b at short is = at_start s k b at short is
 step_by Comment s k b at short is = in_comment s k b at short is
 step_by Tokens s k b at short is = in_tokens s k b at short is
-step_by Ended s k b at short is = record { short = short; same = λ rest. is (b ∷ rest) ∙ sym (ap (λ p. judge_at_place p s (cut is_line_feed rest)) at) }
+step_by Ended s k b at short is = record { short = short; same = λ rest. is (b ∷ rest) ∙ sym (ap (λ p. judge_at_place p s (parts_of is_line_feed rest)) at) }
 
 -- one step follows the judgement
 pub step_follows : (s : Scan) (k : List ℕ → Result ProgressState CnfFault) (b : ℕ) → Continues s k → Follows (step s b) (λ rest. k (b ∷ rest))

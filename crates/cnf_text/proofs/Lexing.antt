@@ -4,7 +4,7 @@ use Rattle.std.proofs.lemmas.Bool.{lt-ltb, le-ltb, eqb-true, ne_eqb}
 use Rattle.cnf_text.specs.declared.fault.CnfFault.TheVariants.{TooLong}
 use Rattle.cnf_text.specs.declared.scan.Place.{Place}
 use Rattle.cnf_text.specs.declared.scan.Place.TheVariants.{LineStart, Comment, Tokens, Ended}
-use Rattle.cnf_text.specs.Cut.{Parts, cut}
+use Rattle.cnf_text.specs.Parts.{Parts, parts_of}
 use Rattle.cnf_text.specs.Faults.{on_ok}
 use Rattle.cnf_text.specs.Pieces.{Piece, Token, LineEnd, is_line_feed, is_blank, mark_of, is_comment, is_end, tokens, line_tokens, pieces}
 use Rattle.cnf_text.specs.Progress.{ProgressState}
@@ -15,15 +15,15 @@ abbrev pub with_byte : Bool → ℕ → Parts → Parts
 with_byte true b parts = record { first = []; others = parts.first ∷ parts.others }
 with_byte false b parts = record { first = b ∷ parts.first; others = parts.others }
 
-cut_cons : (cuts : ℕ → Bool) (b : ℕ) (bs : List ℕ) → cut cuts (b ∷ bs) ≡ with_byte (cuts b) b (cut cuts bs)
-cut_cons cuts b bs = by (cuts b)
+parts_of-cons : (cuts : ℕ → Bool) (b : ℕ) (bs : List ℕ) → parts_of cuts (b ∷ bs) ≡ with_byte (cuts b) b (parts_of cuts bs)
+parts_of-cons cuts b bs = by (cuts b)
   where
-    by : (t : Bool) → cond t (record { first = []; others = (cut cuts bs).first ∷ (cut cuts bs).others }) (record { first = b ∷ (cut cuts bs).first; others = (cut cuts bs).others }) ≡ with_byte t b (cut cuts bs)
+    by : (t : Bool) → cond t (record { first = []; others = (parts_of cuts bs).first ∷ (parts_of cuts bs).others }) (record { first = b ∷ (parts_of cuts bs).first; others = (parts_of cuts bs).others }) ≡ with_byte t b (parts_of cuts bs)
     by true = refl
     by false = refl
 
-pub cut_is : (cuts : ℕ → Bool) (b : ℕ) (bs : List ℕ) (t : Bool) → cuts b ≡ t → cut cuts (b ∷ bs) ≡ with_byte t b (cut cuts bs)
-cut_is cuts b bs t is = cut_cons cuts b bs ∙ ap (λ u. with_byte u b (cut cuts bs)) is
+pub parts_of_is : (cuts : ℕ → Bool) (b : ℕ) (bs : List ℕ) (t : Bool) → cuts b ≡ t → parts_of cuts (b ∷ bs) ≡ with_byte t b (parts_of cuts bs)
+parts_of_is cuts b bs t is = parts_of-cons cuts b bs ∙ ap (λ u. with_byte u b (parts_of cuts bs)) is
 
 -- a byte that is no blank is no LF
 pub solid_no_feed : (b : ℕ) → is_blank b ≡ false → is_line_feed b ≡ false
@@ -53,7 +53,7 @@ abbrev pub pieces_by : Option ℕ → ℕ → Bool → Parts → List Piece → 
 pieces_by mark line whole parts behind =
     cond (is_end mark) [] (cond (is_comment mark) [] (tokens line whole parts.first parts.others) ++ behind)
 
-pub pieces_is : (line : ℕ) (bytes : List ℕ) (others : List (List ℕ)) → pieces line bytes others ≡ pieces_by (mark_of bytes) line (is_more others) (cut is_blank bytes) (closing line others)
+pub pieces_is : (line : ℕ) (bytes : List ℕ) (others : List (List ℕ)) → pieces line bytes others ≡ pieces_by (mark_of bytes) line (is_more others) (parts_of is_blank bytes) (closing line others)
 pieces_is line bytes [] = ap (λ xs. cond (is_end (mark_of bytes)) [] xs) (sym (append-nil (line_tokens line false bytes)))
 pieces_is line bytes (next ∷ more) = refl
 
@@ -61,7 +61,7 @@ pieces_is line bytes (next ∷ more) = refl
 abbrev pub pieces_at : Place → ℕ → List ℕ → Parts → List Piece
 pieces_at LineStart line token lines = pieces line lines.first lines.others
 pieces_at Comment line token lines = closing line lines.others
-pieces_at Tokens line token lines = open_tokens line (is_more lines.others) token (cut is_blank lines.first) ++ closing line lines.others
+pieces_at Tokens line token lines = open_tokens line (is_more lines.others) token (parts_of is_blank lines.first) ++ closing line lines.others
 pieces_at Ended line token lines = []
 
 mark_blank : (b : ℕ) (bytes : List ℕ) → is_blank b ≡ true → mark_of (b ∷ bytes) ≡ mark_of bytes
@@ -84,36 +84,36 @@ empty_first p mark line whole parts behind = by (is_end mark) (is_comment mark)
 pub blank_at_start : (p : ProgressState) (line b : ℕ) (bytes : List ℕ) (others : List (List ℕ)) → is_blank b ≡ true → judge p (pieces line (b ∷ bytes) others) ≡ judge p (pieces line bytes others)
 blank_at_start p line b bytes others is =
     ap (judge p) (pieces_is line (b ∷ bytes) others)
-    ∙ ap (λ m. judge p (pieces_by m line (is_more others) (cut is_blank (b ∷ bytes)) (closing line others))) (mark_blank b bytes is)
-    ∙ ap (λ (q : Parts). judge p (pieces_by (mark_of bytes) line (is_more others) q (closing line others))) (cut_is is_blank b bytes true is)
-    ∙ empty_first p (mark_of bytes) line (is_more others) (cut is_blank bytes) (closing line others)
+    ∙ ap (λ m. judge p (pieces_by m line (is_more others) (parts_of is_blank (b ∷ bytes)) (closing line others))) (mark_blank b bytes is)
+    ∙ ap (λ (q : Parts). judge p (pieces_by (mark_of bytes) line (is_more others) q (closing line others))) (parts_of_is is_blank b bytes true is)
+    ∙ empty_first p (mark_of bytes) line (is_more others) (parts_of is_blank bytes) (closing line others)
     ∙ sym (ap (judge p) (pieces_is line bytes others))
 
 -- a line by its first byte that is no blank
 marked : (line b : ℕ) (bytes : List ℕ) (others : List (List ℕ)) → is_blank b ≡ false
-    → pieces line (b ∷ bytes) others ≡ cond (b == 37) [] (cond (b == 99) [] (open_tokens line (is_more others) (b ∷ []) (cut is_blank bytes)) ++ closing line others)
+    → pieces line (b ∷ bytes) others ≡ cond (b == 37) [] (cond (b == 99) [] (open_tokens line (is_more others) (b ∷ []) (parts_of is_blank bytes)) ++ closing line others)
 marked line b bytes others is =
     pieces_is line (b ∷ bytes) others
-    ∙ ap (λ m. pieces_by m line (is_more others) (cut is_blank (b ∷ bytes)) (closing line others)) (mark_other b bytes is)
-    ∙ ap (λ (q : Parts). pieces_by (Some b) line (is_more others) q (closing line others)) (cut_is is_blank b bytes false is)
+    ∙ ap (λ m. pieces_by m line (is_more others) (parts_of is_blank (b ∷ bytes)) (closing line others)) (mark_other b bytes is)
+    ∙ ap (λ (q : Parts). pieces_by (Some b) line (is_more others) q (closing line others)) (parts_of_is is_blank b bytes false is)
 
 pub comment_at_start : (line b : ℕ) (bytes : List ℕ) (others : List (List ℕ)) → is_blank b ≡ false → (b == 99) ≡ true → pieces line (b ∷ bytes) others ≡ closing line others
 comment_at_start line b bytes others solid is =
     marked line b bytes others solid
-    ∙ ap (λ t. cond t [] (cond (b == 99) [] (open_tokens line (is_more others) (b ∷ []) (cut is_blank bytes)) ++ closing line others)) (ne_eqb b 37 (λ e. omega (arith, eqb-true b 99 is)))
-    ∙ ap (λ t. cond t [] (open_tokens line (is_more others) (b ∷ []) (cut is_blank bytes)) ++ closing line others) is
+    ∙ ap (λ t. cond t [] (cond (b == 99) [] (open_tokens line (is_more others) (b ∷ []) (parts_of is_blank bytes)) ++ closing line others)) (ne_eqb b 37 (λ e. omega (arith, eqb-true b 99 is)))
+    ∙ ap (λ t. cond t [] (open_tokens line (is_more others) (b ∷ []) (parts_of is_blank bytes)) ++ closing line others) is
 
 pub end_at_start : (line b : ℕ) (bytes : List ℕ) (others : List (List ℕ)) → is_blank b ≡ false → (b == 37) ≡ true → pieces line (b ∷ bytes) others ≡ []
 end_at_start line b bytes others solid is =
     marked line b bytes others solid
-    ∙ ap (λ t. cond t [] (cond (b == 99) [] (open_tokens line (is_more others) (b ∷ []) (cut is_blank bytes)) ++ closing line others)) is
+    ∙ ap (λ t. cond t [] (cond (b == 99) [] (open_tokens line (is_more others) (b ∷ []) (parts_of is_blank bytes)) ++ closing line others)) is
 
 pub token_at_start : (line b : ℕ) (bytes : List ℕ) (others : List (List ℕ)) → is_blank b ≡ false → (b == 99) ≡ false → (b == 37) ≡ false
-    → pieces line (b ∷ bytes) others ≡ open_tokens line (is_more others) (b ∷ []) (cut is_blank bytes) ++ closing line others
+    → pieces line (b ∷ bytes) others ≡ open_tokens line (is_more others) (b ∷ []) (parts_of is_blank bytes) ++ closing line others
 token_at_start line b bytes others solid no_comment no_end =
     marked line b bytes others solid
-    ∙ ap (λ t. cond t [] (cond (b == 99) [] (open_tokens line (is_more others) (b ∷ []) (cut is_blank bytes)) ++ closing line others)) no_end
-    ∙ ap (λ t. cond t [] (open_tokens line (is_more others) (b ∷ []) (cut is_blank bytes)) ++ closing line others) no_comment
+    ∙ ap (λ t. cond t [] (cond (b == 99) [] (open_tokens line (is_more others) (b ∷ []) (parts_of is_blank bytes)) ++ closing line others)) no_end
+    ∙ ap (λ t. cond t [] (open_tokens line (is_more others) (b ∷ []) (parts_of is_blank bytes)) ++ closing line others) no_comment
 
 -- a token of at most 64 bytes is judged when it is whole
 pub short_judged : (p : ProgressState) (token : List ℕ) (line : ℕ) → length token ≤ 64 → judge_bytes p true (token ++ []) line ≡ judge_token p token line
@@ -123,17 +123,17 @@ short_judged p token line short =
 
 -- a blank ends the open token
 pub blank_in_tokens : (p : ProgressState) (line b : ℕ) (whole : Bool) (token bytes : List ℕ) (behind : List Piece) → is_blank b ≡ true → length token ≤ 64
-    → judge p (open_tokens line whole token (cut is_blank (b ∷ bytes)) ++ behind) ≡ on_ok (judge_token p token line) (λ q. judge q (open_tokens line whole [] (cut is_blank bytes) ++ behind))
+    → judge p (open_tokens line whole token (parts_of is_blank (b ∷ bytes)) ++ behind) ≡ on_ok (judge_token p token line) (λ q. judge q (open_tokens line whole [] (parts_of is_blank bytes) ++ behind))
 blank_in_tokens p line b whole token bytes behind is short =
-    ap (λ (q : Parts). judge p (open_tokens line whole token q ++ behind)) (cut_is is_blank b bytes true is)
-    ∙ ap (λ r. on_ok r (λ q. judge q (open_tokens line whole [] (cut is_blank bytes) ++ behind))) (short_judged p token line short)
+    ap (λ (q : Parts). judge p (open_tokens line whole token q ++ behind)) (parts_of_is is_blank b bytes true is)
+    ∙ ap (λ r. on_ok r (λ q. judge q (open_tokens line whole [] (parts_of is_blank bytes) ++ behind))) (short_judged p token line short)
 
 -- another byte is one more of the open token
 pub byte_in_tokens : (line b : ℕ) (whole : Bool) (token bytes : List ℕ) → is_blank b ≡ false
-    → open_tokens line whole token (cut is_blank (b ∷ bytes)) ≡ open_tokens line whole (token ++ b ∷ []) (cut is_blank bytes)
+    → open_tokens line whole token (parts_of is_blank (b ∷ bytes)) ≡ open_tokens line whole (token ++ b ∷ []) (parts_of is_blank bytes)
 byte_in_tokens line b whole token bytes is =
-    ap (open_tokens line whole token) (cut_is is_blank b bytes false is)
-    ∙ ap (λ t. tokens line whole t (cut is_blank bytes).others) (sym (append_assoc token (b ∷ []) (cut is_blank bytes).first))
+    ap (open_tokens line whole token) (parts_of_is is_blank b bytes false is)
+    ∙ ap (λ t. tokens line whole t (parts_of is_blank bytes).others) (sym (append_assoc token (b ∷ []) (parts_of is_blank bytes).first))
 
 -- a token of more than 64 bytes is a fault
 pub long_token : (p : ProgressState) (line : ℕ) (whole : Bool) (token : List ℕ) (others : List (List ℕ)) (behind : List Piece) → 64 < length token

@@ -1,5 +1,7 @@
 -- The reader's steps over a comment.
-use Rattle.std.proofs.Common.{◌≡◌, ℕ, suc, ◌+◌, Bool, true, false, not, cond, List, [], ◌∷◌, drop, refl, sym, ap, ◌∙◌, arith, Ok}
+use Rattle.std.proofs.Common.{◌≡◌, ℕ, suc, ◌+◌, ◌<◌, Bool, true, false, not, cond, List, [], ◌∷◌, length, get_or, drop, refl, sym, ap, ◌∙◌, arith, Ok}
+use Rattle.std.proofs.lemmas.List.{drop_more}
+use Rattle.std.proofs.lemmas.List.Sums.{passes_at_first}
 use Rattle.std.specs.List.{position_or_len}
 use Rattle.cnf_text.specs.declared.scan.Place.{Place}
 use Rattle.cnf_text.specs.declared.scan.Place.TheVariants.{LineStart, Comment, Tokens, Ended}
@@ -27,3 +29,18 @@ comment_passed s (b ∷ bs) at = by (is_line_feed b) refl (comment_passed s bs a
         ∙ later
         ∙ ap (λ n. steps s (drop n (b ∷ bs))) (let more : suc (position_or_len is_line_feed bs) ≡ 1 + position_or_len is_line_feed bs = omega arith in more)
         ∙ ap (λ t. steps s (drop (cond (not t) (1 + position_or_len is_line_feed bs) 0) (b ∷ bs))) (sym no_feed)
+
+-- an LF ends the comment
+byte_ends : (place : Place) (s : Scan) (b : ℕ) → is_commented place ≡ true → is_line_feed b ≡ true → step_at place s b ≡ end_line s
+byte_ends LineStart s b at feed = cc
+byte_ends Comment s b at feed = ap (λ t. cond t (end_line s) (Ok s)) feed
+byte_ends Tokens s b at feed = cc
+byte_ends Ended s b at feed = cc
+
+-- the steps over a comment and the LF that ends it
+pub comment_ended : (s : Scan) (bytes : List ℕ) → is_commented s.place ≡ true → position_or_len is_line_feed bytes < length bytes
+    → steps s bytes ≡ on_ok (end_line s) (λ t. steps t (drop (position_or_len is_line_feed bytes + 1) bytes))
+comment_ended s bytes at more =
+    let count : ℕ = position_or_len is_line_feed bytes in
+    comment_passed s bytes at ∙ ap (steps s) (drop_more bytes count 0 more)
+    ∙ ap (λ r. on_ok r (λ t. steps t (drop (count + 1) bytes))) (byte_ends s.place s (get_or bytes count 0) at (passes_at_first is_line_feed bytes 0 more))

@@ -25,9 +25,9 @@ OnFault-weaker (OverLimit which line) P Q f p = f p
 OnFault-weaker (TooLong line) P Q f p = f p
 OnFault-weaker NoMemory P Q f p = tt
 
-pub judges_same : {A S : Type 0} (r : Result A CnfFault) (new : S) (wanted same : Result S CnfFault) → same ≡ wanted → Judges r new wanted → Judges r new same
-judges_same (Ok done) new wanted same is judged = is ∙ judged
-judges_same (Err fault) new wanted same is judged = OnFault-weaker fault (wanted ≡ Err fault) (same ≡ Err fault) (λ e. is ∙ e) judged
+pub judges_same : {A S : Type 0} (r : Result A CnfFault) (after : S) (wanted same : Result S CnfFault) → same ≡ wanted → Judges r after wanted → Judges r after same
+judges_same (Ok done) after wanted same is judged = is ∙ judged
+judges_same (Err fault) after wanted same is judged = OnFault-weaker fault (wanted ≡ Err fault) (same ≡ Err fault) (λ e. is ∙ e) judged
 
 pub gives_same : {A : Type 0} (r : Result A CnfFault) (wanted same : Result A CnfFault) → same ≡ wanted → Gives r wanted → Gives r same
 gives_same (Ok value) wanted same is given = is ∙ given

@@ -12,9 +12,9 @@ value_from n [] = n
 value_from n (d ∷ ds) = value_from (n * 10 + (d - 48)) ds
 
 -- a number of this sign, where the bytes are digits, at least one; leading zeros are accepted
-abbrev pub number_of : Bool → List ℕ → Class
-number_of positive [] = Other
-number_of positive (d ∷ ds) = if list_all is_ascii_digit (d ∷ ds) then Number positive (value_from 0 (d ∷ ds)) else Other
+abbrev pub digits_class : Bool → List ℕ → Class
+digits_class positive [] = Other
+digits_class positive (d ∷ ds) = if list_all is_ascii_digit (d ∷ ds) then Number positive (value_from 0 (d ∷ ds)) else Other
 
 -- what a token is: `p`, `cnf`, digits, `-` and digits, or something else
 abbrev pub class_of : List ℕ → Class
@@ -22,7 +22,7 @@ class_of [] = Other
 class_of (b ∷ bs) =
     if pointwise nat_eq (b ∷ bs) (codes "p") then Magic
     else (if pointwise nat_eq (b ∷ bs) (codes "cnf") then Format
-    else (if b == 45 then number_of false bs else number_of true (b ∷ bs)))
+    else (if b == 45 then digits_class false bs else digits_class true (b ∷ bs)))
 
 -- the class with a value of at most a hundred million, above which no value is told from another
 abbrev pub capped : Class → Class

@@ -1,12 +1,14 @@
 -- What holds of the definitions of reading.
-use Rattle.std.specs.Prelude.{◌≡◌, ℕ, ◌≤◌, ◌↔◌, true, not, List, [], ◌∷◌, ◌++◌, length, map, flat_map, Some, Ok, Err}
+use Rattle.std.specs.Prelude.{◌≡◌, ℕ, ◌≤◌, ◌↔◌, true, false, not, List, [], ◌∷◌, ◌++◌, length, map, flat_map, Some, None, Ok, Err}
 use Rattle.std.specs.List.{list_all}
 use Rattle.lit_base.specs.Literal.{Literal}
 use Rattle.lit_base.specs.Distinct.{distinct}
 use Rattle.lit_base.specs.Cnf.{Cnf}
 use Rattle.cnf_text.specs.declared.fault.CnfFault.{CnfFault}
 use Rattle.cnf_text.specs.Pieces.{is_line_feed, mark_of, is_comment}
-use Rattle.cnf_text.specs.Reading.{formula_of, early_fault, IsEnded}
+use Rattle.cnf_text.specs.State.{ReaderState}
+use Rattle.cnf_text.specs.Reading.{formula_of, early_fault, is_ended, IsEnded}
+use Rattle.cnf_text.specs.Reader.{HasRead}
 use Rattle.cnf_text.specs.Spelling.{formula_text, CanBeWritten}
 
 -- an early fault is the fault of the whole, whatever follows
@@ -16,6 +18,14 @@ EarlyFaultStays = (front rest : List ℕ) (fault : CnfFault) → early_fault fro
 -- what follows the line that ends the input changes nothing
 abbrev pub EndEndsInput : Type 0
 EndEndsInput = (front rest : List ℕ) → IsEnded front → formula_of (front ++ rest) ≡ formula_of front
+
+-- what a reader has read has no fault so far
+abbrev pub ReadBytesAreSound : Type 0
+ReadBytesAreSound = (reader : ReaderState) (bytes : List ℕ) → HasRead reader bytes → early_fault bytes ≡ None
+
+-- what a reader has read is within the limit of bytes, where no line ends the input
+abbrev pub ReadBytesAreFew : Type 0
+ReadBytesAreFew = (reader : ReaderState) (bytes : List ℕ) → HasRead reader bytes → is_ended bytes ≡ false → length bytes ≤ 268435456
 
 -- what is written as a formula is read as that formula
 abbrev pub WrittenIsRead : Type 0

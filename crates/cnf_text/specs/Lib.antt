@@ -1,4 +1,4 @@
-pub mod Cut
+pub mod Parts
 pub mod Pieces
 pub mod Class
 pub mod Numeral
@@ -8,5 +8,6 @@ pub mod Judge
 pub mod Machine
 pub mod State
 pub mod Reading
+pub mod Reader
 pub mod Spelling
 pub mod Laws

@@ -94,10 +94,10 @@ step_number s positive value blank =
     on_ok (judge_number s.progress positive value s.line)
     (λ p. step_blank (record { line = s.line; place = Tokens; token = []; progress = p }) blank)
 
--- so many bytes of the text, at least one, were read, and these steps are left; or there is a fault
-abbrev pub Advances : Scan → List ℕ → Scan → Result ℕ CnfFault → Type 0
-Advances old bytes new (Ok count) = (steps old bytes ≡ steps new (drop count bytes)) × (1 ≤ count) × (count ≤ length bytes) × (new.line ≤ old.line + count)
-Advances old bytes new (Err fault) = OnFault fault (steps old bytes ≡ Err fault) × (new.line ≤ old.line + length bytes)
+-- so many bytes of the text were read, and these steps are left; or there is a fault
+abbrev pub Passes : Scan → List ℕ → Scan → Result ℕ CnfFault → Type 0
+Passes before bytes after (Ok count) = (steps before bytes ≡ steps after (drop count bytes)) × (count ≤ length bytes) × (after.line ≤ before.line + count)
+Passes before bytes after (Err fault) = OnFault fault (steps before bytes ≡ Err fault) × (after.line ≤ before.line + length bytes)
 
 -- what stands at the end of the text: the formula, or its fault
 abbrev pub ends_at : Scan → Result Cnf CnfFault
@@ -108,28 +108,28 @@ abbrev pub room_of : ℕ → List ℕ → List ℕ
 room_of read piece = take (268435456 - read) piece
 
 -- the front of the piece that there is room for is read, and no byte is one too many
-pub record ReadsAll (old : Scan) (read : ℕ) (piece : List ℕ) (new : Scan) : Type 0 where
-  pub scanned : steps old (room_of read piece) ≡ Ok new
-  pub room : is_ended_at new.place ≡ false → read + length piece ≤ 268435456
+pub record ReadsAll (before : Scan) (read : ℕ) (piece : List ℕ) (after : Scan) : Type 0 where
+  pub scanned : steps before (room_of read piece) ≡ Ok after
+  pub room : is_ended_at after.place ≡ false → read + length piece ≤ 268435456
 
 -- a byte is one too many, and what was read before it doesn't end the input
-pub record ReadsTooMany (old : Scan) (read : ℕ) (piece : List ℕ) (line : ℕ) : Type 0 where
+pub record ReadsTooMany (before : Scan) (read : ℕ) (piece : List ℕ) (line : ℕ) : Type 0 where
   pub end : Scan
-  pub scanned : steps old (room_of read piece) ≡ Ok end
+  pub scanned : steps before (room_of read piece) ≡ Ok end
   pub more : is_ended_at end.place ≡ false
   pub long : 268435456 < read + length piece
   pub at : line ≡ end.line
 
 -- a fault of reading on: one of the bytes that are read, or of the one that is too many
 abbrev pub FaultOn : Scan → ℕ → List ℕ → CnfFault → Type 0
-FaultOn old read piece fault = OnFault fault ((steps old (room_of read piece) ≡ Err fault) ⊎ ((line : ℕ) × (fault ≡ OverLimit Bytes line) × ReadsTooMany old read piece line))
+FaultOn before read piece fault = OnFault fault ((steps before (room_of read piece) ≡ Err fault) ⊎ ((line : ℕ) × (fault ≡ OverLimit Bytes line) × ReadsTooMany before read piece line))
 
 -- what reading on answers
 abbrev pub Reads : {A : Type 0} → Scan → ℕ → List ℕ → Scan → Result A CnfFault → Type 0
-Reads old read piece new (Ok done) = ReadsAll old read piece new
-Reads old read piece new (Err fault) = FaultOn old read piece fault
+Reads before read piece after (Ok done) = ReadsAll before read piece after
+Reads before read piece after (Err fault) = FaultOn before read piece fault
 
 -- what reading on leaves and answers
-pub record ReadsOn {A : Type 0} (old : Scan) (read : ℕ) (piece : List ℕ) (new : Scan) (after : ℕ) (answer : Result A CnfFault) : Type 0 where
-  pub counted : after ≡ read + length (room_of read piece)
-  pub judged : Reads old read piece new answer
+pub record ReadsOn {A : Type 0} (before : Scan) (read : ℕ) (piece : List ℕ) (after : Scan) (total : ℕ) (answer : Result A CnfFault) : Type 0 where
+  pub counted : total ≡ read + length (room_of read piece)
+  pub judged : Reads before read piece after answer

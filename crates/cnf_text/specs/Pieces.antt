@@ -1,6 +1,6 @@
 -- The lines of a text, and the tokens in them.
 use Rattle.std.specs.Prelude.{ℕ, ◌+◌, ◌==◌, Bool, true, false, ◌||◌, List, [], ◌∷◌, ◌++◌, Option, Some, None, if◌then◌else◌}
-use Rattle.cnf_text.specs.Cut.{Parts, cut}
+use Rattle.cnf_text.specs.Parts.{Parts, parts_of}
 
 -- LF ends a line
 abbrev pub is_line_feed : ℕ → Bool
@@ -38,7 +38,7 @@ tokens line whole token (next ∷ more) = Token line true token ∷ tokens line 
 -- the tokens of a line; a comment has none
 abbrev pub line_tokens : ℕ → Bool → List ℕ → List Piece
 line_tokens line whole bytes =
-    if is_comment (mark_of bytes) then [] else tokens line whole (cut is_blank bytes).first (cut is_blank bytes).others
+    if is_comment (mark_of bytes) then [] else tokens line whole (parts_of is_blank bytes).first (parts_of is_blank bytes).others
 
 -- the pieces of lines, counted from this number, up to the line that ends the input. The last line has no LF behind it
 abbrev pub pieces : ℕ → List ℕ → List (List ℕ) → List Piece

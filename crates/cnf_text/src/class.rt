@@ -1,7 +1,7 @@
 ghost use Rattle.std.specs.Prelude.{◌≡◌, ℕ, ◌≤◌, min, true};
 ghost use Rattle.std.specs.List.{list_all};
 ghost use Rattle.std.specs.Char.{is_ascii_digit};
-ghost use Rattle.cnf_text.specs.Class.{class_of, number_of, value_from, capped};
+ghost use Rattle.cnf_text.specs.Class.{class_of, digits_class, value_from, capped};
 
 /// Above this value no number is told from another: every limit of the format is lower.
 const MOST_VALUE: u64 = 100_000_000;
@@ -30,14 +30,14 @@ pub(crate) fn class_of(token: &[u8]) -> Class
         return Class::Format;
     }
     match token.split_first() {
-        Some((first, digits)) if *first == b'-' => number_of(false, digits),
-        _ => number_of(true, token),
+        Some((first, digits)) if *first == b'-' => digits_class(false, digits),
+        _ => digits_class(true, token),
     }
 }
 
 /// The number of this sign that the bytes are, where they are digits.
-fn number_of(positive: bool, digits: &[u8]) -> Class
-    ensures { result ≡ capped (number_of positive digits.now) }
+fn digits_class(positive: bool, digits: &[u8]) -> Class
+    ensures { result ≡ capped (digits_class positive digits.now) }
 {
     if digits.is_empty() || !is_digits(digits) {
         return Class::Other;

@@ -15,6 +15,23 @@ pub enum Which {
     Bytes,
 }
 
+impl Which {
+    ghost use Rattle.std.specs.Prelude.{◌≡◌};
+    ghost use Rattle.cnf_text.specs.Faults.{limit_name};
+
+    /// The name of the fault that there is too much of it.
+    fn limit_name(self) -> &'static [u8]
+        ensures { result.now ≡ limit_name self }
+    {
+        match self {
+            Which::Variables => b"OverLimit Variables",
+            Which::Clauses => b"OverLimit Clauses",
+            Which::Literals => b"OverLimit Literals",
+            Which::Bytes => b"OverLimit Bytes",
+        }
+    }
+}
+
 impl fmt::Display for Which {
     fn fmt<W: fmt::Write>(&self, f: &mut fmt::Formatter<W>) -> fmt::Result {
         f.write_str(match self {
@@ -59,6 +76,47 @@ pub enum CnfFault {
     /// Memory could not be had.
     #[error("out of memory")]
     NoMemory,
+}
+
+impl CnfFault {
+    ghost use Rattle.std.specs.Prelude.{◌≡◌};
+    ghost use Rattle.cnf_text.specs.Faults.{line_of, name_of};
+
+    /// The line of the fault, counted from 1; 0 for want of memory, which has none.
+    pub fn line(self) -> u64
+        ensures { result ≡ line_of self }
+    {
+        match self {
+            CnfFault::NoHeader(line) => line,
+            CnfFault::BadHeader(line) => line,
+            CnfFault::BadNumber(line) => line,
+            CnfFault::VariableAbove(line) => line,
+            CnfFault::TooManyClauses(line) => line,
+            CnfFault::TooFewClauses(line) => line,
+            CnfFault::Unclosed(line) => line,
+            CnfFault::OverLimit(_, line) => line,
+            CnfFault::TooLong(line) => line,
+            CnfFault::NoMemory => 0,
+        }
+    }
+
+    /// The name of the fault; for a limit `OverLimit` and what there is too much of.
+    pub fn name(self) -> &'static [u8]
+        ensures { result.now ≡ name_of self }
+    {
+        match self {
+            CnfFault::NoHeader(_) => b"NoHeader",
+            CnfFault::BadHeader(_) => b"BadHeader",
+            CnfFault::BadNumber(_) => b"BadNumber",
+            CnfFault::VariableAbove(_) => b"VariableAbove",
+            CnfFault::TooManyClauses(_) => b"TooManyClauses",
+            CnfFault::TooFewClauses(_) => b"TooFewClauses",
+            CnfFault::Unclosed(_) => b"Unclosed",
+            CnfFault::OverLimit(which, _) => which.limit_name(),
+            CnfFault::TooLong(_) => b"TooLong",
+            CnfFault::NoMemory => b"NoMemory",
+        }
+    }
 }
 
 impl From<lit_base::NoMemory> for CnfFault {

@@ -10,7 +10,10 @@
 #![tactic(auto)]
 
 pub use fault::{CnfFault, Which};
-pub use laws::{comments_change_nothing, early_fault_stays, end_ends_input, written_is_read};
+pub use laws::{
+    comments_change_nothing, early_fault_stays, end_ends_input, read_bytes_are_few,
+    read_bytes_are_sound, written_is_read,
+};
 pub use reader::Reader;
 
 mod class;

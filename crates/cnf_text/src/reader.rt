@@ -2,7 +2,8 @@ ghost use Rattle.std.specs.Prelude.{◌≡◌, ◌≤◌, ◌+◌, ◌<◌, ◌-
 ghost use Rattle.lit_base.specs.Cnf.{IsFormula};
 ghost use Rattle.cnf_text.specs.Faults.{Gives};
 ghost use Rattle.cnf_text.specs.Machine.{ReadsOn, ends_at};
-ghost use Rattle.cnf_text.specs.Reading.{HasRead, Feeds, Ends, is_ended};
+ghost use Rattle.cnf_text.specs.Reading.{is_ended};
+ghost use Rattle.cnf_text.specs.Reader.{HasRead, Feeds, Ends};
 
 use crate::fault::{CnfFault, Which};
 use crate::scan::Scan;

@@ -1,6 +1,6 @@
-ghost use Rattle.std.specs.Prelude.{◌≡◌, ℕ, ◌+◌, ◌≤◌, ◌<◌, ◌^◌, length};
+ghost use Rattle.std.specs.Prelude.{◌≡◌, ℕ, ◌+◌, ◌≤◌, ◌<◌, ◌^◌, length, IfOk};
 ghost use Rattle.cnf_text.specs.Faults.{Judges};
-ghost use Rattle.cnf_text.specs.Machine.{start, end_token, end_line, push_byte, step_at_start, step_in_comment, step_in_tokens, step, step_number, steps, is_between, is_commented, is_ended_at, Advances};
+ghost use Rattle.cnf_text.specs.Machine.{start, end_token, end_line, push_byte, step_at_start, step_in_comment, step_in_tokens, step, step_number, steps, is_between, is_commented, is_ended_at, Passes};
 
 use crate::comment::comment_len;
 use crate::fault::CnfFault;
@@ -73,7 +73,8 @@ impl Scan {
     fn advance(&mut self, bytes: &[u8]) -> Result<usize, CnfFault>
         requires some { 1 ≤ length bytes.now }
         requires lines { self.old.line + length bytes.now < 2 ^ 63 }
-        ensures { Advances self.old bytes.now self.new result }
+        ensures reads { Passes self.old bytes.now self.new result }
+        ensures some { IfOk result (λ count. 1 ≤ count) }
     {
         if self.is_between() && self.progress.is_body() {
             if let Some(numeral) = numeral_at_front(bytes) {
@@ -81,14 +82,25 @@ impl Scan {
                 return Ok(numeral.len + 1);
             }
         }
-        if self.is_commented() {
-            let passed = comment_len(bytes);
-            if passed > 0 {
-                return Ok(passed);
-            }
-        }
         self.step(bytes[0])?;
-        Ok(1)
+        let passed = self.pass_comment(&bytes[1..])?;
+        Ok(1 + passed)
+    }
+
+    /// Reads on to behind the LF of the comment, where the reader is in one, and answers how many bytes that are.
+    fn pass_comment(&mut self, bytes: &[u8]) -> Result<usize, CnfFault>
+        requires { self.old.line + length bytes.now < 2 ^ 63 }
+        ensures { Passes self.old bytes.now self.new result }
+    {
+        if !self.is_commented() {
+            return Ok(0);
+        }
+        let len = comment_len(bytes);
+        if len == bytes.len() {
+            return Ok(len);
+        }
+        self.end_line()?;
+        Ok(len + 1)
     }
 
     /// Whether the next byte begins a token, or none is open.

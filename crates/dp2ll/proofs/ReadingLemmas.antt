@@ -9,7 +9,8 @@ use Rattle.cnf_text.specs.declared.fault.CnfFault.{CnfFault}
 use Rattle.cnf_text.specs.declared.fault.CnfFault.TheVariants as cnf
 use Rattle.cnf_text.specs.Faults.{OnFault}
 use Rattle.cnf_text.specs.State.{ReaderState}
-use Rattle.cnf_text.specs.Reading.{HasRead, Ends, early_fault, is_ended, formula_of}
+use Rattle.cnf_text.specs.Reading.{early_fault, is_ended, formula_of}
+use Rattle.cnf_text.specs.Reader.{HasRead, Ends}
 use Rattle.cnf_text.proofs.Fed.{has_read_short, has_no_early_fault}
 use Rattle.dp2ll.specs.declared.ending.ReadStop.{ReadStop}
 use Rattle.dp2ll.specs.declared.ending.ReadStop.TheVariants.{NoFormula, ReadFault, NoMemory}

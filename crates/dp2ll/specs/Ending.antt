@@ -1,9 +1,6 @@
 -- How a run of the program can end, with the exit status and the complaint of each.
 use Rattle.std.specs.Prelude.{ℕ, List, ◌++◌, codes, decimal, Option, Some, None}
-use Rattle.cnf_text.specs.declared.fault.CnfFault.{CnfFault}
-use Rattle.cnf_text.specs.declared.fault.CnfFault.TheVariants as cnf
-use Rattle.cnf_text.specs.declared.fault.Which.{Which}
-use Rattle.cnf_text.specs.declared.fault.Which.TheVariants.{Variables, Clauses, Literals, Bytes}
+use Rattle.cnf_text.specs.Faults.{line_of, name_of}
 use Rattle.dp2ll.specs.declared.verdict.Verdict.{Verdict}
 use Rattle.dp2ll.specs.declared.verdict.Verdict.TheVariants.{Satisfied, Refuted, Undecided}
 use Rattle.dp2ll.specs.declared.ending.ReadStop.{ReadStop}
@@ -38,39 +35,6 @@ status_of Usage = 1
 status_of (Unread stop) = read_status stop
 status_of (Unwritten stop) = write_status stop
 status_of NoMemory = 5
-
--- the line of a fault, counted from 1
-abbrev pub line_of : CnfFault → ℕ
-line_of (cnf.NoHeader line) = line
-line_of (cnf.BadHeader line) = line
-line_of (cnf.BadNumber line) = line
-line_of (cnf.VariableAbove line) = line
-line_of (cnf.TooManyClauses line) = line
-line_of (cnf.TooFewClauses line) = line
-line_of (cnf.Unclosed line) = line
-line_of (cnf.OverLimit which line) = line
-line_of (cnf.TooLong line) = line
-line_of cnf.NoMemory = 0
-
--- the name of a limit
-abbrev pub limit_name : Which → List ℕ
-limit_name Variables = codes "OverLimit Variables"
-limit_name Clauses = codes "OverLimit Clauses"
-limit_name Literals = codes "OverLimit Literals"
-limit_name Bytes = codes "OverLimit Bytes"
-
--- the name of a fault, for a limit with the name of that
-abbrev pub name_of : CnfFault → List ℕ
-name_of (cnf.NoHeader line) = codes "NoHeader"
-name_of (cnf.BadHeader line) = codes "BadHeader"
-name_of (cnf.BadNumber line) = codes "BadNumber"
-name_of (cnf.VariableAbove line) = codes "VariableAbove"
-name_of (cnf.TooManyClauses line) = codes "TooManyClauses"
-name_of (cnf.TooFewClauses line) = codes "TooFewClauses"
-name_of (cnf.Unclosed line) = codes "Unclosed"
-name_of (cnf.OverLimit which line) = limit_name which
-name_of (cnf.TooLong line) = codes "TooLong"
-name_of cnf.NoMemory = codes "NoMemory"
 
 -- the line that want of memory has
 abbrev pub memory_complaint : List ℕ

@@ -7,7 +7,8 @@ use Rattle.desk_io.specs.declared.Slot.TheVariants.{Formula}
 use Rattle.cnf_text.specs.declared.fault.CnfFault.{CnfFault}
 use Rattle.cnf_text.specs.declared.fault.CnfFault.TheVariants as cnf
 use Rattle.cnf_text.specs.State.{ReaderState}
-use Rattle.cnf_text.specs.Reading.{formula_of, early_fault, is_ended, IsEnded, HasRead}
+use Rattle.cnf_text.specs.Reading.{formula_of, early_fault, is_ended, IsEnded}
+use Rattle.cnf_text.specs.Reader.{HasRead}
 use Rattle.dp2ll.specs.declared.ending.ReadStop.{ReadStop}
 use Rattle.dp2ll.specs.declared.ending.ReadStop.TheVariants.{NoFormula, ReadFault, NoMemory}
 

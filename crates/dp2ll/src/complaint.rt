@@ -1,11 +1,11 @@
 ghost use Rattle.std.specs.Prelude.{◌≡◌, ◌⊎◌, IfOk, Some};
 ghost use Rattle.dp2ll.specs.declared.ending.ReadStop.TheVariants.{NoFormula};
-ghost use Rattle.dp2ll.specs.Ending.{status_of, read_status, complaint_of, read_complaint, write_complaint, line_of, limit_name, name_of};
+ghost use Rattle.dp2ll.specs.Ending.{status_of, read_status, complaint_of, read_complaint, write_complaint};
 ghost use Rattle.dp2ll.specs.Answering.{page_of};
 ghost use Rattle.dp2ll.specs.Complaint.{Complains};
 
 use crate::ending::{Ending, ReadStop, WriteStop};
-use cnf_text::{CnfFault, Which};
+use cnf_text::CnfFault;
 use desk_io::{Outputs, Port, PortFault, write_whole};
 use itoa::Buffer;
 use lit_base::NoMemory;
@@ -96,56 +96,9 @@ fn fault_text(alloc: Global, fault: CnfFault) -> Result<Vec<u8>, NoMemory>
 {
     let mut line = Buffer::new();
     let mut text = Vec::from_slice(alloc, b"dp2ll: formula line ")?;
-    text.extend_from_slice(line.format(line_of(fault)).as_bytes())?;
+    text.extend_from_slice(line.format(fault.line()).as_bytes())?;
     text.extend_from_slice(b": ")?;
-    text.extend_from_slice(name_of(fault))?;
+    text.extend_from_slice(fault.name())?;
     text.push(b'\n')?;
     Ok(text)
-}
-
-/// The line of a fault, counted from 1; 0 for want of memory, which has none.
-fn line_of(fault: CnfFault) -> u64
-    ensures { result ≡ line_of fault }
-{
-    match fault {
-        CnfFault::NoHeader(line) => line,
-        CnfFault::BadHeader(line) => line,
-        CnfFault::BadNumber(line) => line,
-        CnfFault::VariableAbove(line) => line,
-        CnfFault::TooManyClauses(line) => line,
-        CnfFault::TooFewClauses(line) => line,
-        CnfFault::Unclosed(line) => line,
-        CnfFault::OverLimit(_, line) => line,
-        CnfFault::TooLong(line) => line,
-        CnfFault::NoMemory => 0,
-    }
-}
-
-/// The name of a fault, for a limit with the name of that.
-fn name_of(fault: CnfFault) -> &'static [u8]
-    ensures { result.now ≡ name_of fault }
-{
-    match fault {
-        CnfFault::NoHeader(_) => b"NoHeader",
-        CnfFault::BadHeader(_) => b"BadHeader",
-        CnfFault::BadNumber(_) => b"BadNumber",
-        CnfFault::VariableAbove(_) => b"VariableAbove",
-        CnfFault::TooManyClauses(_) => b"TooManyClauses",
-        CnfFault::TooFewClauses(_) => b"TooFewClauses",
-        CnfFault::Unclosed(_) => b"Unclosed",
-        CnfFault::OverLimit(which, _) => limit_name(which),
-        CnfFault::TooLong(_) => b"TooLong",
-        CnfFault::NoMemory => b"NoMemory",
-    }
-}
-
-fn limit_name(which: Which) -> &'static [u8]
-    ensures { result.now ≡ limit_name which }
-{
-    match which {
-        Which::Variables => b"OverLimit Variables",
-        Which::Clauses => b"OverLimit Clauses",
-        Which::Literals => b"OverLimit Literals",
-        Which::Bytes => b"OverLimit Bytes",
-    }
 }

@@ -1,5 +1,5 @@
 ghost use Rattle.std.specs.Prelude.{◌≡◌, ℕ, [], ◌<◌, ◌≤◌, List, IfOk, length, vec_len};
-ghost use Rattle.cnf_text.specs.Reading.{HasRead};
+ghost use Rattle.cnf_text.specs.Reader.{HasRead};
 ghost use Rattle.desk_io.specs.declared.Slot.TheVariants.{Formula as FormulaSlot};
 ghost use Rattle.dp2ll.specs.Reading.{BeginsFormula, Finds, KeepsBegun, ReadsPiece, ReadsPieces, StopsBy};
 

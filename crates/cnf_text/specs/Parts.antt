@@ -7,8 +7,8 @@ pub record Parts : Type 0 where
   pub others : List (List ℕ)
 
 -- the parts round each byte that passes the test, in order: one more than there are such bytes, and some perhaps empty
-abbrev pub cut : (ℕ → Bool) → List ℕ → Parts
-cut cuts [] = record { first = []; others = [] }
-cut cuts (b ∷ bs) =
-    if cuts b then record { first = []; others = (cut cuts bs).first ∷ (cut cuts bs).others }
-    else record { first = b ∷ (cut cuts bs).first; others = (cut cuts bs).others }
+abbrev pub parts_of : (ℕ → Bool) → List ℕ → Parts
+parts_of cuts [] = record { first = []; others = [] }
+parts_of cuts (b ∷ bs) =
+    if cuts b then record { first = []; others = (parts_of cuts bs).first ∷ (parts_of cuts bs).others }
+    else record { first = b ∷ (parts_of cuts bs).first; others = (parts_of cuts bs).others }
