@@ -1,13 +1,16 @@
 -- The reader's steps over a comment.
-use Rattle.std.proofs.Common.{◌≡◌, ℕ, suc, ◌+◌, ◌<◌, Bool, true, false, not, cond, List, [], ◌∷◌, length, get_or, drop, refl, sym, ap, ◌∙◌, arith, Ok}
+use Rattle.std.proofs.Common.{◌≡◌, ℕ, suc, ◌+◌, ◌<◌, Bool, true, false, not, cond, List, [], ◌∷◌, length, get_or, drop, refl, sym, ap, ◌∙◌, arith, Result, Ok, Err}
 use Rattle.std.proofs.lemmas.List.{drop_more}
 use Rattle.std.proofs.lemmas.List.Sums.{passes_at_first}
 use Rattle.std.specs.List.{position_or_len}
+use Rattle.cnf_text.specs.declared.fault.CnfFault.{CnfFault}
 use Rattle.cnf_text.specs.declared.scan.Place.{Place}
 use Rattle.cnf_text.specs.declared.scan.Place.TheVariants.{LineStart, Comment, Tokens, Ended}
 use Rattle.cnf_text.specs.declared.scan.Scan.{Scan}
 use Rattle.cnf_text.specs.Faults.{on_ok}
 use Rattle.cnf_text.specs.Pieces.{is_line_feed}
+use Rattle.cnf_text.specs.Progress.{ProgressState}
+use Rattle.cnf_text.specs.Judge.{judge_line_end}
 use Rattle.cnf_text.specs.Machine.{end_line, step_at, steps, is_commented}
 
 -- a byte of a comment that is no LF changes nothing
@@ -44,3 +47,12 @@ comment_ended s bytes at more =
     let count : ℕ = position_or_len is_line_feed bytes in
     comment_passed s bytes at ∙ ap (steps s) (drop_more bytes count 0 more)
     ∙ ap (λ r. on_ok r (λ t. steps t (drop (count + 1) bytes))) (byte_ends s.place s (get_or bytes count 0) at (passes_at_first is_line_feed bytes 0 more))
+
+-- behind the end of a line no comment goes on
+pub no_comment_behind : (s after : Scan) → end_line s ≡ Ok after → is_commented after.place ≡ true → ⊥
+no_comment_behind s after is at = by (judge_line_end s.progress.stage s.progress s.line) is
+  where
+    by : (r : Result ProgressState CnfFault) → on_ok r (λ p. Ok (record { line = s.line + 1; place = LineStart; token = []; progress = p })) ≡ Ok after → ⊥
+    by (Ok p) same = let here : (let t : Scan = record { line = s.line + 1; place = LineStart; token = []; progress = p } in t) ≡ after = cc in
+        let no : is_commented after.place ≡ false = ap (λ (t : Scan). is_commented t.place) (sym here) in cc
+    by (Err fault) same = cc

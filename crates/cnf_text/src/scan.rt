@@ -1,4 +1,4 @@
-ghost use Rattle.std.specs.Prelude.{◌≡◌, ℕ, ◌+◌, ◌≤◌, ◌<◌, ◌^◌, length, IfOk};
+ghost use Rattle.std.specs.Prelude.{◌≡◌, ℕ, ◌+◌, ◌≤◌, ◌<◌, ◌^◌, length, true, IfOk};
 ghost use Rattle.cnf_text.specs.Faults.{Judges};
 ghost use Rattle.cnf_text.specs.Machine.{start, end_token, end_line, push_byte, step_at_start, step_in_comment, step_in_tokens, step, step_number, steps, is_between, is_commented, is_ended_at, Passes};
 
@@ -90,7 +90,8 @@ impl Scan {
     /// Reads on to behind the LF of the comment, where the reader is in one, and answers how many bytes that are.
     fn pass_comment(&mut self, bytes: &[u8]) -> Result<usize, CnfFault>
         requires { self.old.line + length bytes.now < 2 ^ 63 }
-        ensures { Passes self.old bytes.now self.new result }
+        ensures reads { Passes self.old bytes.now self.new result }
+        ensures all { IfOk result (λ count. is_commented self.new.place ≡ true → count ≡ length bytes.now) }
     {
         if !self.is_commented() {
             return Ok(0);

@@ -119,6 +119,26 @@ fn odd_texts_are_read(rt: HostRuntime) -> Result<(), Fail> {
     Ok(())
 }
 
+/// Two clauses of more literals than are sought one by one, with some of them twice.
+#[test]
+fn wide_clauses_keep_each_literal_once(rt: HostRuntime) -> Result<(), Fail> {
+    let mut text = String::from_str(rt.alloc(), "p cnf 50 2\n")?;
+    let mut want = vec![in rt.alloc(); 50]?;
+    for first in [1, 11] {
+        for variable in first..first + 40 {
+            text.push_str(format!(in rt.alloc(); "{variable} ")?.as_str())?;
+            want.push(variable)?;
+        }
+        text.push_str(format!(in rt.alloc(); "{first} -{first} {first} 0\n")?.as_str())?;
+        want.push(-first)?;
+        want.push(0)?;
+    }
+    let formula = read(rt.alloc(), text.as_bytes(), 4096)?;
+    let found = numbers(rt.alloc(), &formula)?;
+    assert_eq!(rt; found.as_slice(), want.as_slice());
+    Ok(())
+}
+
 #[test]
 fn no_shorter_text_is_the_formula(rt: HostRuntime) -> Result<(), Fail> {
     let text = b"p cnf 2 4\n1 2 0\n1 -2 0\n-1 2 0\n-1 -2 0\n".as_slice();

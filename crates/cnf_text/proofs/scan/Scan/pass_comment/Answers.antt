@@ -6,19 +6,19 @@ use Rattle.cnf_text.specs.Faults.{on_ok}
 use Rattle.cnf_text.specs.Pieces.{is_line_feed}
 use Rattle.cnf_text.specs.Machine.{end_line, steps}
 use Rattle.cnf_text.proofs.Results.{OnFault-weaker}
-use Rattle.cnf_text.proofs.Passing.{comment_passed, comment_ended}
+use Rattle.cnf_text.proofs.Passing.{comment_passed, comment_ended, no_comment_behind}
 use Rattle.cnf_text.proofs.scan.Scan.pass_comment.Goals as goal
 
 -- the comment goes on behind these bytes
-pub returns-then-len-bytes : goal.returns-then-len-bytes
-returns-then-len-bytes c =
+pub returns-then-len-bytes-clause-reads : goal.returns-then-len-bytes-clause-reads
+returns-then-len-bytes-clause-reads c =
     let bytes = c.args.bytes.now in
     let at = sym c.is_commented.ensures ∙ c.if-not-is_commented.false in
     (comment_passed c.args.self.now bytes at ∙ ap (λ n. steps c.args.self.now (drop n bytes)) (sym c.comment_len-len.ensures), omega arith, omega arith)
 
 -- the LF is where the header goes on
-pub returns-in_err-end_line : goal.returns-in_err-end_line
-returns-in_err-end_line c =
+pub returns-in_err-end_line-clause-reads : goal.returns-in_err-end_line-clause-reads
+returns-in_err-end_line-clause-reads c =
     let bytes = c.args.bytes.now in
     let s = c.args.self.now in
     let at = sym c.is_commented.ensures ∙ c.if-not-is_commented.false in
@@ -38,8 +38,8 @@ overflow_add-result c =
     omega (arith, c.comment_len-len.ensures, within, c.requires)
 
 -- the LF is read
-pub returns : goal.returns
-returns c =
+pub returns-clause-reads : goal.returns-clause-reads
+returns-clause-reads c =
     let bytes = c.args.bytes.now in
     let s = c.args.self.now in
     let at = sym c.is_commented.ensures ∙ c.if-not-is_commented.false in
@@ -50,3 +50,7 @@ returns c =
       omega (arith, c.comment_len-len.ensures, within, c.if-len-bytes.false),
       omega (arith, c.in_ok-end_line.ensures.lines),
     )
+
+-- which ends the comment
+pub returns-clause-all : goal.returns-clause-all
+returns-clause-all c = λ at. absurd (no_comment_behind c.args.self.now c.end_line.new.self c.in_ok-end_line.ensures.judged at)
