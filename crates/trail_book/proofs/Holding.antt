@@ -23,7 +23,7 @@ level_now-le (e ∷ older) leveled =
     omega (arith, next.1, level_now-le older leveled.1)
 
 -- no entry is of a higher level than the trail
-levels_below : (n : ℕ) (trail : List Entry) → IsLeveled trail → level_now trail ≤ n → AllByRecursion (λ e. e.level ≤ n) trail
+pub levels_below : (n : ℕ) (trail : List Entry) → IsLeveled trail → level_now trail ≤ n → AllByRecursion (λ e. e.level ≤ n) trail
 levels_below n [] leveled below = tt
 levels_below n (e ∷ older) leveled below =
     let next = next_level (level_now older) e.level e.reason leveled.0 in

@@ -3,3 +3,4 @@ pub mod Holding
 pub mod Steps
 pub mod Looks
 pub mod Places
+pub mod Jumps

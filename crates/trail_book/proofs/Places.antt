@@ -72,6 +72,21 @@ pub place_of-within : (trail : List Entry) (v : ℕ) (o : Option ℕ) → o ≡ 
 place_of-within trail v None is = tt
 place_of-within trail v (Some place) is = (place_of-entry trail v place (sym is)).within
 
+-- the entry at a variable's place has the variable's sign, and its level
+pub sign_at-place : (trail : List Entry) (v place : ℕ) (e : Entry) → place_of trail v ≡ Some place → slice_get (reverse trail) place ≡ Some e → sign_of trail v ≡ Some e.lit.positive
+sign_at-place trail v place e is there =
+    let at = place_of-entry trail v place is in
+    at.sign ∙ ap (λ (x : Entry). Some x.lit.positive) (same_Some at.entry e (sym at.stands ∙ there))
+
+pub level_at-place : (trail : List Entry) (v place : ℕ) (e : Entry) → place_of trail v ≡ Some place → slice_get (reverse trail) place ≡ Some e → level_of trail v ≡ Some e.level
+level_at-place trail v place e is there =
+    let at = place_of-entry trail v place is in
+    at.level ∙ ap (λ (x : Entry). Some x.level) (same_Some at.entry e (sym at.stands ∙ there))
+
+-- a free variable has no sign
+pub sign_of-free : (trail : List Entry) (v : ℕ) → is_free trail v ≡ true → sign_of trail v ≡ None
+sign_of-free trail v free = none_is (sign_of trail v) free
+
 -- a variable is free where it has no level, and where it has no place
 pub level_of-is_none : (trail : List Entry) (v : ℕ) → is_none (level_of trail v) ≡ is_free trail v
 level_of-is_none [] v = refl

@@ -1,2 +1,3 @@
 pub mod TrailState
 pub mod Arrays
+pub mod Laws

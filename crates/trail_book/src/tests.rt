@@ -1,16 +1,7 @@
-use crate::Trail;
+use crate::{Trail, law_jump};
 use lit_base::{Lit, Name, Value};
 use std::process::Abort;
 use std::test::Fail;
-
-/// The reason of this index.
-fn reason(index: u32) -> Name {
-    Name {
-        period: 1,
-        core: 0,
-        index,
-    }
-}
 
 /// Decides a literal, once it was seen to be free.
 fn decide(rt: &impl Abort, trail: &mut Trail, lit: Lit) {
@@ -41,13 +32,14 @@ fn is_entry(trail: &Trail, place: usize, number: i32, level: u32, reason: Option
 
 #[test]
 fn a_trail_goes_forth_and_back(rt: HostRuntime) -> Result<(), Fail> {
+    law_jump();
     let mut trail = Trail::with_room(rt.alloc(), 3)?;
-    imply(&rt, &mut trail, Lit::of(2, false), reason(7));
+    imply(&rt, &mut trail, Lit::of(2, false), Name::lemma(1, 0, 7));
     decide(&rt, &mut trail, Lit::of(1, true));
     decide(&rt, &mut trail, Lit::of(3, false));
     assert_eq!(rt; (trail.variables(), trail.level(), trail.len()), (3, 2, 3));
     assert!(rt; trail.full());
-    assert!(rt; is_entry(&trail, 0, -2, 0, Some(reason(7))));
+    assert!(rt; is_entry(&trail, 0, -2, 0, Some(Name::lemma(1, 0, 7))));
     assert!(rt; is_entry(&trail, 2, -3, 2, None));
     jump(&rt, &mut trail, 1);
     assert_eq!(rt;
@@ -76,10 +68,10 @@ fn a_trail_goes_forth_and_back(rt: HostRuntime) -> Result<(), Fail> {
 #[test]
 fn each_entry_that_leaves_is_given_once(rt: HostRuntime) -> Result<(), Fail> {
     let mut trail = Trail::with_room(rt.alloc(), 4)?;
-    imply(&rt, &mut trail, Lit::of(4, true), reason(7));
+    imply(&rt, &mut trail, Lit::of(4, true), Name::lemma(1, 0, 7));
     decide(&rt, &mut trail, Lit::of(1, true));
     decide(&rt, &mut trail, Lit::of(3, false));
-    imply(&rt, &mut trail, Lit::of(2, true), reason(8));
+    imply(&rt, &mut trail, Lit::of(2, true), Name::lemma(1, 0, 8));
     for (level, left) in [
         (1, Some(2)),
         (1, Some(-3)),

@@ -7,10 +7,7 @@ use trail_book::Trail;
 #[test]
 fn a_variable_is_picked_by_activity(rt: HostRuntime) -> Result<(), Fail> {
     law_pick();
-    let mut start = List::new(rt.alloc());
-    start.push(6)?;
-    start.push(3)?;
-    start.push(9)?;
+    let start = List::of(rt.alloc(), &[6, 3, 9])?;
     let mut order = Order::make(rt.alloc(), start)?;
     order.bump(2, 4);
     assert_eq!(rt; order.activity(2), 7);
@@ -26,8 +23,7 @@ fn a_variable_is_picked_by_activity(rt: HostRuntime) -> Result<(), Fail> {
 
 #[test]
 fn none_is_picked_where_the_trail_is_full(rt: HostRuntime) -> Result<(), Fail> {
-    let mut start = List::new(rt.alloc());
-    start.push(5)?;
+    let start = List::of(rt.alloc(), &[5])?;
     let mut order = Order::make(rt.alloc(), start)?;
     let mut trail = Trail::with_room(rt.alloc(), 1)?;
     trail.decide(Lit::of(1, true));
