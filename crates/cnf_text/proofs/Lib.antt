@@ -5,6 +5,7 @@ pub mod Lexing
 pub mod Follow
 pub mod Endings
 pub mod Numerals
+pub mod Passing
 pub mod Fed
 pub mod Whole
 pub mod Comments

@@ -77,6 +77,13 @@ is_between Comment token = false
 is_between Tokens token = length token == 0
 is_between Ended token = false
 
+-- whether the next byte is one of a comment, or ends it
+abbrev pub is_commented : Place → Bool
+is_commented LineStart = false
+is_commented Comment = true
+is_commented Tokens = false
+is_commented Ended = false
+
 -- a blank
 abbrev pub step_blank : Scan → ℕ → Result Scan CnfFault
 step_blank s blank = if is_line_feed blank then end_line s else Ok s

@@ -14,6 +14,7 @@ pub use laws::{comments_change_nothing, early_fault_stays, end_ends_input, writt
 pub use reader::Reader;
 
 mod class;
+mod comment;
 mod fault;
 mod laws;
 mod literals;

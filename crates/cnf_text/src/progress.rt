@@ -7,12 +7,9 @@ use crate::class::{Class, class_of};
 use crate::fault::{CnfFault, Which};
 use crate::literals::Literals;
 use crate::stage::Stage;
-use lit_base::{Clause, Formula, Lit};
+use lit_base::{Clause, Formula, Lit, LitSet, MOST_VARIABLES};
 use std::alloc::Global;
 use std::marker::Model;
-
-/// The most variables of a formula.
-const MOST_VARIABLES: u32 = 1_000_000;
 
 /// The most clauses of a formula.
 const MOST_CLAUSES: u32 = 4_000_000;
@@ -31,6 +28,8 @@ pub(crate) struct Progress {
     formula: Formula,
     literals: Literals,
     count: u32,
+    /// Made with the header, for all clauses: so a clause takes a step for each literal, however wide it is.
+    set: LitSet,
 }
 
 impl Model for Progress {
@@ -40,7 +39,7 @@ impl Model for Progress {
 
     ghost view = { λ p. record { stage = p.stage; limit = p.limit; formula = p.formula; literals = p.literals; count = p.count } };
 
-    ghost invariant = { λ p. IsSound p.limit p.formula.variables p.literals };
+    ghost invariant = { λ p. IsSound p.limit p.formula.variables p.set.variables p.literals };
 }
 
 impl Progress {
@@ -55,6 +54,7 @@ impl Progress {
             formula: Formula::new(alloc, 0),
             literals: Literals::new(alloc),
             count: 0,
+            set: LitSet::empty(alloc),
         }
     }
 
@@ -132,6 +132,7 @@ impl Progress {
                 if value > MOST_VARIABLES {
                     return Err(CnfFault::OverLimit(Which::Variables, line));
                 }
+                self.set = LitSet::new(self.alloc, value)?;
                 self.stage = Stage::AfterVariables;
                 self.limit = 0;
                 self.literals.clear();
@@ -213,7 +214,7 @@ impl Progress {
         if self.has_all_clauses() {
             return Err(CnfFault::TooManyClauses(line));
         }
-        let clause = Clause::of(self.alloc, self.literals.as_slice())?;
+        let clause = Clause::with_set(self.alloc, self.literals.as_slice(), &mut self.set)?;
         self.formula.push(clause)?;
         self.literals.clear();
         Ok(())

@@ -1,7 +1,8 @@
 ghost use Rattle.std.specs.Prelude.{◌≡◌, ℕ, ◌+◌, ◌≤◌, ◌<◌, ◌^◌, length};
 ghost use Rattle.cnf_text.specs.Faults.{Judges};
-ghost use Rattle.cnf_text.specs.Machine.{start, end_token, end_line, push_byte, step_at_start, step_in_comment, step_in_tokens, step, step_number, steps, is_between, is_ended_at, Advances};
+ghost use Rattle.cnf_text.specs.Machine.{start, end_token, end_line, push_byte, step_at_start, step_in_comment, step_in_tokens, step, step_number, steps, is_between, is_commented, is_ended_at, Advances};
 
+use crate::comment::comment_len;
 use crate::fault::CnfFault;
 use crate::numeral::{Numeral, is_blank, numeral_at_front};
 use crate::progress::Progress;
@@ -80,6 +81,12 @@ impl Scan {
                 return Ok(numeral.len + 1);
             }
         }
+        if self.is_commented() {
+            let passed = comment_len(bytes);
+            if passed > 0 {
+                return Ok(passed);
+            }
+        }
         self.step(bytes[0])?;
         Ok(1)
     }
@@ -92,6 +99,18 @@ impl Scan {
             Place::LineStart => true,
             Place::Comment => false,
             Place::Tokens => self.token.is_empty(),
+            Place::Ended => false,
+        }
+    }
+
+    /// Whether the next byte is one of a comment, or ends it.
+    fn is_commented(&self) -> bool
+        ensures { result ≡ is_commented self.now.place }
+    {
+        match self.place {
+            Place::LineStart => false,
+            Place::Comment => true,
+            Place::Tokens => false,
             Place::Ended => false,
         }
     }

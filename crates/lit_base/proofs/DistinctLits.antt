@@ -12,15 +12,12 @@ use Rattle.std.proofs.lemmas.List.Elements.{filter-append, All-cons, All-head, A
 use Rattle.std.proofs.lemmas.Map.Views.{any-filter_same}
 use Rattle.std.proofs.Math.Seq.{take-suc}
 use Rattle.lit_base.specs.Literal.{Literal, same}
+use Rattle.lit_base.specs.LitSet.{index_of}
 use Rattle.lit_base.specs.Distinct.{distinct}
-
--- the place of a literal in an array by literal
-abbrev pub place_of : Literal → ℕ
-place_of l = 2 * l.variable + (if l.positive then 0 else 1)
 
 -- whether a list has the literal, by its place
 abbrev pub has : List Literal → Literal → Bool
-has lits x = list_any (λ m. place_of m == place_of x) lits
+has lits x = list_any (λ m. index_of m == index_of x) lits
 
 -- a list with the literal at its end, unless it is there
 abbrev pub with_new : List Literal → Literal → List Literal
@@ -47,13 +44,13 @@ places_by_cases v w false true = grind (arith, nat_tests)
 places_by_cases v w false false = grind (arith, nat_tests)
 
 -- literals are the same where their places are
-pub same-places : (l m : Literal) → same l m ≡ (place_of l == place_of m)
+pub same-places : (l m : Literal) → same l m ≡ (index_of l == index_of m)
 same-places l m = places_by_cases l.variable m.variable l.positive m.positive
 
 -- a filter that drops one literal does not change whether another is there
 has-filter_other : (l x : Literal) (lits : List Literal) → same l x ≡ false → has (filter (λ m. not (same l m)) lits) x ≡ has lits x
 has-filter_other l x lits differ =
-    any-filter_same (λ m. place_of m == place_of x) (λ m. not (same l m)) true
+    any-filter_same (λ m. index_of m == index_of x) (λ m. not (same l m)) true
     (λ m is. let e : m ≡ x = same-true m x (same-places m x ∙ is) in subst (λ y. not (same l y) ≡ true) (sym e) (ap not differ))
     lits
 
@@ -78,7 +75,7 @@ cons-cond x xs ys true = refl
 cons-cond x xs ys false = refl
 
 -- a new first literal leaves it the same whether one more is new
-with_new_after : (l x : Literal) (lits : List Literal) (b : Bool) → (place_of l == place_of x) ≡ b →
+with_new_after : (l x : Literal) (lits : List Literal) (b : Bool) → (index_of l == index_of x) ≡ b →
     l ∷ filter (λ m. not (same l m)) (with_new lits x) ≡ with_new (l ∷ filter (λ m. not (same l m)) lits) x
 with_new_after l x lits true is =
     let kept = filter (λ m. not (same l m)) lits in
@@ -87,7 +84,7 @@ with_new_after l x lits true is =
 with_new_after l x lits false is =
     let kept = filter (λ m. not (same l m)) lits in
     let differ : same l x ≡ false = same-places l x ∙ is in
-    let there : ((place_of l == place_of x) || has kept x) ≡ has lits x = ap (λ b. b || has kept x) is ∙ has-filter_other l x lits differ in
+    let there : ((index_of l == index_of x) || has kept x) ≡ has lits x = ap (λ b. b || has kept x) is ∙ has-filter_other l x lits differ in
     ap (λ t. l ∷ t) (filter-cond_kept (λ m. not (same l m)) x lits (has lits x) (ap not differ))
     ∙ (cons-cond l kept (kept ++ x ∷ []) (has lits x) ∙ ap (λ b. cond b (l ∷ kept) ((l ∷ kept) ++ x ∷ [])) (sym there))
 
@@ -95,7 +92,7 @@ with_new_after l x lits false is =
 pub distinct-append_one : (lits : List Literal) (x : Literal) → distinct (lits ++ x ∷ []) ≡ with_new (distinct lits) x
 distinct-append_one [] x = refl
 distinct-append_one (l ∷ ls) x =
-    ap (λ t. l ∷ filter (λ m. not (same l m)) t) (distinct-append_one ls x) ∙ with_new_after l x (distinct ls) (place_of l == place_of x) refl
+    ap (λ t. l ∷ filter (λ m. not (same l m)) t) (distinct-append_one ls x) ∙ with_new_after l x (distinct ls) (index_of l == index_of x) refl
 
 -- one more literal of the list
 pub distinct_step : (lits : List Literal) (i : ℕ) (x : Literal) → i < length lits → x ≡ get_or lits i x → distinct (take (i + 1) lits) ≡ with_new (distinct (take i lits)) x
@@ -129,41 +126,41 @@ All-distinct P (l ∷ ls) h =
     (All-filter (λ m. not (same l m)) P (distinct ls) (All-distinct P ls (All-tail P l ls h)))
 
 -- the step of a set of places: with a literal's place put in, it holds those of the literals kept and that one
-places_more : (kept : List Literal) (x : Literal) (k : ℕ) (b : Bool) → b ≡ list_any (λ m. place_of m == k) kept →
-    cond (is_at (nat_cmp (place_of x)) k) true b ≡ list_any (λ m. place_of m == k) (kept ++ x ∷ [])
+places_more : (kept : List Literal) (x : Literal) (k : ℕ) (b : Bool) → b ≡ list_any (λ m. index_of m == k) kept →
+    cond (is_at (nat_cmp (index_of x)) k) true b ≡ list_any (λ m. index_of m == k) (kept ++ x ∷ [])
 places_more kept x k b were =
-    ap (λ t. cond (is_at (nat_cmp (place_of x)) k) true t) were
-    ∙ (at_place (place_of x) k (list_any (λ m. place_of m == k) kept) ∙ sym (list_any-append (λ m. place_of m == k) kept (x ∷ [])))
+    ap (λ t. cond (is_at (nat_cmp (index_of x)) k) true t) were
+    ∙ (at_place (index_of x) k (list_any (λ m. index_of m == k) kept) ∙ sym (list_any-append (λ m. index_of m == k) kept (x ∷ [])))
 
-pub places_after : (before after : ℕ → Bool) (kept pushed : List Literal) (x : Literal) (key : ℕ) → key ≡ place_of x → pushed ≡ kept ++ x ∷ [] →
-    ((k : ℕ) → before k ≡ list_any (λ m. place_of m == k) kept) →
+pub places_after : (before after : ℕ → Bool) (kept pushed : List Literal) (x : Literal) (key : ℕ) → key ≡ index_of x → pushed ≡ kept ++ x ∷ [] →
+    ((k : ℕ) → before k ≡ list_any (λ m. index_of m == k) kept) →
     ((k : ℕ) → after k ≡ cond (is_at (nat_cmp key) k) true (before k)) →
-    (k : ℕ) → after k ≡ list_any (λ m. place_of m == k) pushed
+    (k : ℕ) → after k ≡ list_any (λ m. index_of m == k) pushed
 places_after before after kept pushed x key at_x is were updated k =
     updated k ∙ (ap (λ q. cond (is_at (nat_cmp q) k) true (before k)) at_x
-    ∙ (places_more kept x k (before k) (were k) ∙ ap (λ l. list_any (λ m. place_of m == k) l) (sym is)))
+    ∙ (places_more kept x k (before k) (were k) ∙ ap (λ l. list_any (λ m. index_of m == k) l) (sym is)))
 
 -- whether the list has the literal, by the set of places
-pub has_by_places : (before : ℕ → Bool) (kept : List Literal) (x : Literal) (key : ℕ) → key ≡ place_of x → ((k : ℕ) → before k ≡ list_any (λ m. place_of m == k) kept) →
+pub has_by_places : (before : ℕ → Bool) (kept : List Literal) (x : Literal) (key : ℕ) → key ≡ index_of x → ((k : ℕ) → before k ≡ list_any (λ m. index_of m == k) kept) →
     (added : Bool) → added ≡ not (before key) → has kept x ≡ not added
 has_by_places before kept x key at_x were added is =
-    ap (λ k. list_any (λ m. place_of m == k) kept) (sym at_x) ∙ (sym (were key) ∙ (sym (not_not (before key)) ∙ ap not (sym is)))
+    ap (λ k. list_any (λ m. index_of m == k) kept) (sym at_x) ∙ (sym (were key) ∙ (sym (not_not (before key)) ∙ ap not (sym is)))
 
 -- the set of places where nothing is put in
 pub places_same : (before after : ℕ → Bool) (kept still : List Literal) → still ≡ kept → ((k : ℕ) → after k ≡ before k) →
-    ((k : ℕ) → before k ≡ list_any (λ m. place_of m == k) kept) → (k : ℕ) → after k ≡ list_any (λ m. place_of m == k) still
-places_same before after kept still is unchanged were k = unchanged k ∙ (were k ∙ ap (λ l. list_any (λ m. place_of m == k) l) (sym is))
+    ((k : ℕ) → before k ≡ list_any (λ m. index_of m == k) kept) → (k : ℕ) → after k ≡ list_any (λ m. index_of m == k) still
+places_same before after kept still is unchanged were k = unchanged k ∙ (were k ∙ ap (λ l. list_any (λ m. index_of m == k) l) (sym is))
 
 set_again : (p k : ℕ) (b : Bool) → (p ≡ k → b ≡ true) → cond (is_at (nat_cmp p) k) true b ≡ b
 set_again p k true was = grind (arith, nat_tests)
 set_again p k false was = grind (arith, nat_tests)
 
 -- the set of places where the place of a literal that is there is put in again
-pub places_set : (before after : ℕ → Bool) (kept still : List Literal) (x : Literal) (key : ℕ) → key ≡ place_of x → has kept x ≡ true → still ≡ kept →
-    ((k : ℕ) → before k ≡ list_any (λ m. place_of m == k) kept) →
+pub places_set : (before after : ℕ → Bool) (kept still : List Literal) (x : Literal) (key : ℕ) → key ≡ index_of x → has kept x ≡ true → still ≡ kept →
+    ((k : ℕ) → before k ≡ list_any (λ m. index_of m == k) kept) →
     ((k : ℕ) → after k ≡ cond (is_at (nat_cmp key) k) true (before k)) →
-    (k : ℕ) → after k ≡ list_any (λ m. place_of m == k) still
+    (k : ℕ) → after k ≡ list_any (λ m. index_of m == k) still
 places_set before after kept still x key at_x there is were updated k =
     updated k
-    ∙ (set_again key k (before k) (λ same. were k ∙ (ap (λ q. list_any (λ m. place_of m == q) kept) (sym same ∙ at_x) ∙ there))
-    ∙ (were k ∙ ap (λ l. list_any (λ m. place_of m == k) l) (sym is)))
+    ∙ (set_again key k (before k) (λ same. were k ∙ (ap (λ q. list_any (λ m. index_of m == q) kept) (sym same ∙ at_x) ∙ there))
+    ∙ (were k ∙ ap (λ l. list_any (λ m. index_of m == k) l) (sym is)))

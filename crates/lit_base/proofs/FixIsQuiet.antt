@@ -22,7 +22,7 @@ only_free_is_free trail lits l (Some k) some =
     let rest = list_all (λ m. is_false trail m || same m k) lits in free_by trail k l rest (is_free trail k.variable && rest) refl some
 
 -- the literal of a unit clause is free
-unit_is_free : (trail : List Entry) (lits : List Literal) (l : Literal) → unit_of trail lits ≡ Some l → is_free trail l.variable ≡ true
+pub unit_is_free : (trail : List Entry) (lits : List Literal) (l : Literal) → unit_of trail lits ≡ Some l → is_free trail l.variable ≡ true
 unit_is_free trail lits l some = only_free_is_free trail lits l (find (λ m. not (is_false trail m)) lits) some
 
 -- units that are added to one more entry don't give the trail back

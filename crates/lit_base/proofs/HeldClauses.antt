@@ -39,16 +39,17 @@ lits_at-first false c o = refl
 pub lits_at-cons : (c : NamedClause) (clauses : List NamedClause) (n : Name) → lits_at (c ∷ clauses) n ≡ cond (same_name c.name n) (Some c.lits) (lits_at clauses n)
 lits_at-cons c clauses n = lits_at-first (same_name c.name n) c (find (λ d. same_name d.name n) clauses)
 
-not_found_parts : (b : Bool) (lits : List Literal) (o : Option (List Literal)) → cond b (Some lits) o ≡ None → (b ≡ false) × (o ≡ None)
-not_found_parts true lits o none = cc
-not_found_parts false lits o none = (refl, none)
+-- nothing is found where neither the first nor any other is it
+pub not_found_parts : {X : Type 0} (b : Bool) (x : X) (o : Option X) → cond b (Some x) o ≡ None → (b ≡ false) × (o ≡ None)
+not_found_parts true x o none = cc
+not_found_parts false x o none = (refl, none)
 
 -- a name that isn't found is neither that of the first clause nor found among the others
 pub lits_at-none : (c : NamedClause) (clauses : List NamedClause) (n : Name) → lits_at (c ∷ clauses) n ≡ None → (same_name c.name n ≡ false) × (lits_at clauses n ≡ None)
 lits_at-none c clauses n none = not_found_parts (same_name c.name n) c.lits (lits_at clauses n) (sym (lits_at-cons c clauses n) ∙ none)
 
 -- two clauses of different names are looked up in either order
-either_order : (c d n : Name) (x y : List Literal) (o : Option (List Literal)) → same_name d c ≡ false →
+pub either_order : {X : Type 0} (c d n : Name) (x y : X) (o : Option X) → same_name d c ≡ false →
     cond (same_name d n) (Some y) (cond (same_name c n) (Some x) o) ≡ cond (same_name c n) (Some x) (cond (same_name d n) (Some y) o)
 either_order c d n x y o apart = by_tests (same_name c n) (same_name d n) refl refl
   where

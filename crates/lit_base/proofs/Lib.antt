@@ -26,3 +26,7 @@ pub mod HeldClauses
 pub mod LessonHints
 pub mod TrailWithin
 pub mod HintsDistinct
+pub mod Passed
+pub mod Touched
+pub mod NameOrder
+pub mod RoundOrder

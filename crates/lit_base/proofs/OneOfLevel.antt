@@ -20,7 +20,7 @@ each_when P Q step [] all = tt
 each_when P Q step (x ∷ xs) all = (step x all.0, each_when P Q step xs all.1)
 
 -- what holds of each element, and of one more at the end
-one_more : {X : Type 0} (P : X → Type 0) (xs : List X) (x : X) → AllByRecursion P xs → P x → AllByRecursion P (xs ++ x ∷ [])
+pub one_more : {X : Type 0} (P : X → Type 0) (xs : List X) (x : X) → AllByRecursion P xs → P x → AllByRecursion P (xs ++ x ∷ [])
 one_more P [] x all one = (one, tt)
 one_more P (y ∷ ys) x all one = (all.0, one_more P ys x all.1 one)
 
@@ -53,7 +53,7 @@ older_on e older s free on = record {
     differ is = free_and_found (sign_of older s.lit.variable) s.lit.positive (ap (λ v. is_free older v) (sym is) ∙ free) on.stands
 
 -- each entry of a trail is on it
-each_on : (trail : List Entry) → HasDistinctVariables trail → AllByRecursion (IsOn trail) trail
+pub each_on : (trail : List Entry) → HasDistinctVariables trail → AllByRecursion (IsOn trail) trail
 each_on [] distinct = tt
 each_on (e ∷ older) distinct = (newest_on e older, each_when (IsOn older) (IsOn (e ∷ older)) (λ s on. older_on e older s distinct.0 on) older (each_on older distinct.1))
 

@@ -1,10 +1,10 @@
 -- Analysis of a conflict, up to the first unique implication point (Marques-Silva and Sakallah 1996).
 -- `look` finds the literals of a clause by its name.
-use Rattle.std.specs.Prelude.{ℕ, ◌==◌, max, Bool, not, ◌&&◌, ◌||◌, if◌then◌else◌}
+use Rattle.std.specs.Prelude.{ℕ, ◌≡◌, ◌==◌, ◌≤◌, max, Bool, not, ◌&&◌, ◌||◌, if◌then◌else◌}
 use Rattle.std.specs.Prelude.{List, [], ◌∷◌, ◌++◌, map, filter, fold, Option, Some, None}
 use Rattle.std.specs.List.{list_any}
 use Rattle.lit_base.specs.Literal.{Literal, negation}
-use Rattle.lit_base.specs.Trail.{level_now}
+use Rattle.lit_base.specs.Trail.{level_now, level_of}
 use Rattle.lit_base.specs.declared.trail.Entry.{Entry}
 use Rattle.lit_base.specs.declared.name.Name.{Name}
 use Rattle.lit_base.specs.declared.lesson.Lesson.{Lesson}
@@ -84,3 +84,13 @@ lesson_from level t =
 -- what the conflict teaches: the lemma, its hints, the level to jump back to, and the touched variables
 abbrev pub lesson_of : (Name → Option (List Literal)) → List Entry → Name → Lesson
 lesson_of look trail conflict = lesson_from (level_now trail) (trace look (level_now trail) trail (first_trace look conflict))
+
+-- whether a clause that one of these names finds has a literal of the variable
+abbrev pub is_met : (Name → Option (List Literal)) → List Name → ℕ → Bool
+is_met look names v = list_any (λ name. is_marked (variables_of (look name)) v) names
+
+-- the variable stands on the trail, at a level above 0
+pub record IsAboveRoot (trail : List Entry) (v : ℕ) : Type 0 where
+  pub level : ℕ
+  pub stands : level_of trail v ≡ Some level
+  pub above_root : 1 ≤ level

@@ -1,6 +1,6 @@
 -- Clauses that a core holds under their names, each with how often it was a hint since the last reduction.
-use Rattle.std.specs.Prelude.{ℕ, ◌+◌, ◌==◌, nat_lt, Bool, not, ◌&&◌, ◌||◌, if◌then◌else◌, List, [], ◌∷◌, length, map, filter}
-use Rattle.std.specs.List.{list_any}
+use Rattle.std.specs.Prelude.{⊤, IsTrue, ℕ, ◌+◌, ◌==◌, nat_lt, Bool, not, ◌&&◌, ◌||◌, if◌then◌else◌, List, [], ◌∷◌, length, map, filter}
+use Rattle.std.specs.List.{list_any, AllByRecursion}
 use Rattle.lit_base.specs.Literal.{Literal}
 use Rattle.lit_base.specs.Rounds.{NamedClause}
 use Rattle.lit_base.specs.Named.{same_name}
@@ -30,10 +30,31 @@ is_before a b =
     nat_lt a.period b.period
     || ((a.period == b.period) && (nat_lt a.core b.core || ((a.core == b.core) && nat_lt a.index b.index)))
 
--- the clauses with one more, in front of the first that has a greater name
+-- items stand by rising names: each name is before those of all later items
+abbrev pub AreRisingBy : {X : Type 0} → (X → Name) → List X → Type 0
+AreRisingBy name_of [] = ⊤
+AreRisingBy name_of (x ∷ later) = AllByRecursion (λ y. IsTrue (is_before (name_of x) (name_of y))) later × AreRisingBy name_of later
+
+-- names stand in rising order: each is before all later ones
+abbrev pub AreRising : List Name → Type 0
+AreRising names = AreRisingBy (λ (name : Name). name) names
+
+-- items with one more, in front of the first that has a greater name
+abbrev pub with_item : {X : Type 0} → (X → Name) → X → List X → List X
+with_item name_of x [] = x ∷ []
+with_item name_of x (y ∷ later) = if is_before (name_of x) (name_of y) then x ∷ y ∷ later else y ∷ with_item name_of x later
+
+-- the held clauses with one more
 abbrev pub with_clause : HeldClause → List HeldClause → List HeldClause
-with_clause c [] = c ∷ []
-with_clause c (d ∷ later) = if is_before c.name d.name then c ∷ d ∷ later else d ∷ with_clause c later
+with_clause c held = with_item (λ (d : HeldClause). d.name) c held
+
+-- named clauses with one more
+abbrev pub with_named : NamedClause → List NamedClause → List NamedClause
+with_named c clauses = with_item (λ (d : NamedClause). d.name) c clauses
+
+-- names with one more
+abbrev pub with_name : Name → List Name → List Name
+with_name name names = with_item (λ (other : Name). other) name names
 
 -- originals are the clauses of period 0
 abbrev pub is_original : Name → Bool
@@ -51,9 +72,29 @@ with_use hints c = if not (is_original c.name) && is_among hints c.name then rec
 abbrev pub with_uses : List Name → List HeldClause → List HeldClause
 with_uses hints held = map (with_use hints) held
 
--- the clauses but those with these names
+-- items but those with these names
+abbrev pub without_items : {X : Type 0} → (X → Name) → List Name → List X → List X
+without_items name_of names items = filter (λ x. not (is_among names (name_of x))) items
+
+-- the held clauses but those with these names
 abbrev pub without_names : List Name → List HeldClause → List HeldClause
-without_names names held = filter (λ c. not (is_among names c.name)) held
+without_names names held = without_items (λ (c : HeldClause). c.name) names held
+
+-- named clauses but those with these names
+abbrev pub clauses_without : List Name → List NamedClause → List NamedClause
+clauses_without names clauses = without_items (λ (c : NamedClause). c.name) names clauses
+
+-- names but these
+abbrev pub names_without : List Name → List Name → List Name
+names_without dropped names = without_items (λ (name : Name). name) dropped names
+
+-- the names of named clauses
+abbrev pub names_of : List NamedClause → List Name
+names_of clauses = map (λ c. c.name) clauses
+
+-- the names of held clauses
+abbrev pub held_names : List HeldClause → List Name
+held_names held = map (λ c. c.name) held
 
 -- the number of clauses that are no originals
 abbrev pub volume_of : List HeldClause → ℕ

@@ -1,4 +1,5 @@
 pub mod Literal
+pub mod LitSet
 pub mod Truth
 pub mod Cnf
 pub mod Distinct
@@ -12,6 +13,7 @@ pub mod Judgement
 pub mod Named
 pub mod Held
 pub mod Fits
+pub mod Order
 pub mod Quiet
 pub mod Analysis
 pub mod Refutation

@@ -16,8 +16,8 @@ abbrev pub same : Literal → Literal → Bool
 same a b = (a.variable == b.variable) && beq a.positive b.positive
 
 -- the number of a literal in DIMACS: v for variable v, -v for its negation
-abbrev pub number_of : Literal → ℤ
-number_of l = if l.positive then pos l.variable else neg_ℤ (pos l.variable)
+abbrev pub dimacs_number : Literal → ℤ
+dimacs_number l = if l.positive then pos l.variable else neg_ℤ (pos l.variable)
 
 -- the literal's variable is one of 1 to `variables`
 abbrev pub IsWithin : ℕ → Literal → Type 0

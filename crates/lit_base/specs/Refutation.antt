@@ -1,5 +1,6 @@
 -- The proof of one line that a conflict of propagation from the empty trail gives.
 use Rattle.std.specs.Prelude.{ℕ, ◌+◌, List, [], ◌∷◌, length, map}
+use Rattle.lit_base.specs.Literal.{Literal}
 use Rattle.lit_base.specs.Cnf.{Cnf}
 use Rattle.lit_base.specs.Named.{lits_at}
 use Rattle.lit_base.specs.Rounds.{Propagated, propagate, originals}
@@ -21,7 +22,14 @@ propagated cnf = propagate cnf.variables (originals cnf) []
 abbrev pub root_lesson : Cnf → Name → Lesson
 root_lesson cnf conflict = lesson_of (lits_at (originals cnf)) (propagated cnf).trail conflict
 
--- one line: it adds the empty lemma under the first id above the originals, with the hints of the lesson
+-- a line that adds a lemma under an id, with the numbers of its hints
+abbrev pub lemma_line : (Name → ℕ) → ℕ → ℕ → List Literal → List Name → Line
+lemma_line number line id lits hints = record { line = line; step = Add id lits (map number hints) }
+
+-- the proof of one line: it adds the empty lemma under the first id above the originals, with these hints
+abbrev pub refutation_by : Cnf → List Name → List Line
+refutation_by cnf hints = lemma_line number_of_original 1 (length cnf.clauses + 1) [] hints ∷ []
+
+-- the proof of a conflict: that with the hints of its lesson
 abbrev pub refutation_of : Cnf → Name → List Line
-refutation_of cnf conflict =
-    record { line = 1; step = Add (length cnf.clauses + 1) [] (map number_of_original (root_lesson cnf conflict).hints) } ∷ []
+refutation_of cnf conflict = refutation_by cnf (root_lesson cnf conflict).hints

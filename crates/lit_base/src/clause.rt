@@ -6,20 +6,14 @@ ghost use Rattle.lit_base.specs.Truth.{is_clause_true};
 
 use crate::list::List;
 use crate::lit::Lit;
+use crate::lit_set::LitSet;
 use crate::memory::NoMemory;
 use std::alloc::Global;
 use std::collections::BTreeSet;
 use std::marker::Model;
 
-/// Up to this many literals each is sought among those kept.
+/// Up to this many literals each is sought among those kept: for few that is faster than any set.
 const SHORT: usize = 32;
-
-/// Up to this many literals a set holds what was met; for more a flag for each literal there is, so that clearing the
-/// flags takes fewer steps than n log n.
-const LONG: usize = 131_072;
-
-/// One more than the greatest index of a literal.
-const PLACES: usize = 2_000_002;
 
 /// A clause: the disjunction of its literals, each of which it holds once.
 #[derive(Debug, Drop)]
@@ -50,12 +44,25 @@ impl Clause {
     {
         let lits = if lits.len() <= SHORT {
             distinct_by_search(alloc, lits)?
-        } else if lits.len() <= LONG {
-            distinct_by_set(alloc, lits)?
         } else {
-            distinct_by_flags(alloc, lits)?
+            distinct_by_tree(alloc, lits)?
         };
         Ok(Clause { lits })
+    }
+
+    /// What `of` makes, in a step for each literal, by a set that may be used for clause after clause.
+    pub fn with_set(alloc: Global, lits: &[Lit], set: &mut LitSet) -> Result<Clause, NoMemory>
+        requires { All (IsWithin set.old.variables) lits.now }
+        ensures value { IfOk result (λ clause. clause ≡ distinct lits.now) }
+        ensures variables { set.new.variables ≡ set.old.variables }
+    {
+        if lits.len() <= SHORT {
+            return Clause::of(alloc, lits);
+        }
+        set.keep(lits)?;
+        Ok(Clause {
+            lits: List::of(alloc, set.as_slice())?,
+        })
     }
 
     /// Whether a literal of the clause is true in the model.
@@ -96,7 +103,7 @@ fn distinct_by_search(alloc: Global, lits: &[Lit]) -> Result<List<Lit>, NoMemory
     Ok(kept)
 }
 
-fn distinct_by_set(alloc: Global, lits: &[Lit]) -> Result<List<Lit>, NoMemory>
+fn distinct_by_tree(alloc: Global, lits: &[Lit]) -> Result<List<Lit>, NoMemory>
     ensures { IfOk result (λ kept. kept ≡ distinct lits.now) }
 {
     let mut kept = List::new(alloc);
@@ -107,37 +114,4 @@ fn distinct_by_set(alloc: Global, lits: &[Lit]) -> Result<List<Lit>, NoMemory>
         }
     }
     Ok(kept)
-}
-
-fn distinct_by_flags(alloc: Global, lits: &[Lit]) -> Result<List<Lit>, NoMemory>
-    ensures { IfOk result (λ kept. kept ≡ distinct lits.now) }
-{
-    let mut kept = List::new(alloc);
-    let mut met = clear_flags(alloc, PLACES)?;
-    for lit in lits {
-        if set_flag(&mut met, lit.index()) {
-            kept.push(*lit)?;
-        }
-    }
-    Ok(kept)
-}
-
-/// So many flags, none of them set.
-fn clear_flags(alloc: Global, count: usize) -> Result<Vec<bool>, NoMemory>
-    ensures len { IfOk result (λ flags. vec_len flags ≡ count) }
-    ensures clear { IfOk result (λ flags. (k : ℕ) → slice_index_or flags.items k false ≡ false) }
-{
-    Ok(vec![in alloc; false; count]?)
-}
-
-/// Sets the flag at a place, and answers whether it was clear.
-fn set_flag(flags: &mut Vec<bool>, place: usize) -> bool
-    requires { place < vec_len flags.old }
-    ensures clear { result ≡ not (slice_index_or flags.old.items place false) }
-    ensures len { vec_len flags.new ≡ vec_len flags.old }
-    ensures set { (k : ℕ) → slice_index_or flags.new.items k false ≡ (if place == k then true else slice_index_or flags.old.items k false) }
-{
-    let was_set = flags[place];
-    flags[place] = true;
-    !was_set
 }

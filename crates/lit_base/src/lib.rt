@@ -4,24 +4,28 @@
 
 pub use clause::Clause;
 pub use formula::Formula;
-pub use laws::{law_full_trail_satisfies, law_model_has_each_value, law_rounds_suffice};
-pub use lesson::Lesson;
-pub use lesson_laws::{
-    law_conflict_refutes, law_hints_are_distinct, law_lesson_follows, law_originals_are_found,
-    law_propagation_fits, law_root_lesson_is_empty, law_small_lesson,
+pub use laws::lesson::{
+    law_conflict_has_two_literals, law_conflict_refutes, law_few_hints, law_hints_are_distinct,
+    law_lesson_follows, law_lesson_is_asserting, law_lesson_literals, law_root_lesson_is_empty,
+    law_small_lesson, law_touched_variables,
 };
+pub use laws::name::law_names_are_ordered;
+pub use laws::proof::{
+    law_checked_proof_refutes, law_empty_lemma_decides, law_found_more_follows, law_small_proofs,
+};
+pub use laws::propagation::{
+    law_conflict_is_least, law_fixed_point_is_quiet, law_originals_are_found, law_propagation_fits,
+    law_rounds_suffice, law_units_by_name,
+};
+pub use laws::trail::{law_full_trail_satisfies, law_jump_fits, law_model_has_each_value};
+pub use lesson::Lesson;
 pub use list::List;
 pub use lit::{Lit, MOST_VARIABLES};
+pub use lit_set::LitSet;
 pub use memory::NoMemory;
 pub use model::Model;
 pub use name::Name;
 pub use proof::{ClauseStatus, Judged, Line, LineStep, ProofFault};
-pub use proof_laws::{
-    law_checked_proof_refutes, law_empty_lemma_decides, law_found_more_follows, law_small_proofs,
-};
-pub use quiet_laws::{
-    law_conflict_has_two_literals, law_fixed_point_is_quiet, law_jump_fits, law_lesson_is_asserting,
-};
 pub use text::Text;
 pub use trail::{Entry, Value};
 
@@ -29,15 +33,13 @@ mod clause;
 mod formula;
 mod laws;
 mod lesson;
-mod lesson_laws;
 mod list;
 mod lit;
+mod lit_set;
 mod memory;
 mod model;
 mod name;
 mod proof;
-mod proof_laws;
-mod quiet_laws;
 #[cfg(test)]
 mod tests;
 mod text;

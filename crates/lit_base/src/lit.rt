@@ -1,5 +1,5 @@
 ghost use Rattle.std.specs.Prelude.{◌≡◌, ℕ, ◌+◌, ◌*◌, ◌≤◌, ◌⊎◌, ◌==◌, ◌<◌, ◌/◌, ◌%◌, ◌↔◌, Bool, IsNone, IfSome, IsTrue, unsigned_abs, if◌then◌else◌};
-ghost use Rattle.lit_base.specs.Literal.{Literal, negation, number_of};
+ghost use Rattle.lit_base.specs.Literal.{Literal, negation, dimacs_number};
 
 use std::marker::Model;
 
@@ -33,7 +33,7 @@ impl Lit {
     /// None where `n` is 0 or its magnitude is above 1,000,000.
     pub fn new(n: i32) -> Option<Lit>
         ensures none { IsNone result ↔ ((unsigned_abs n ≡ 0) ⊎ (1000000 < unsigned_abs n)) }
-        ensures number { IfSome result (λ l. number_of l ≡ n) }
+        ensures number { IfSome result (λ l. dimacs_number l ≡ n) }
     {
         let variable = n.unsigned_abs();
         if variable == 0 || variable > MOST_VARIABLES {
@@ -59,7 +59,7 @@ impl Lit {
 
     /// The number that DIMACS writes for the literal, from -1,000,000 to 1,000,000 and never 0.
     pub fn number(self) -> i32
-        ensures { result ≡ number_of self }
+        ensures { result ≡ dimacs_number self }
     {
         let variable = self.var() as i32;
         if self.is_positive() {

@@ -12,6 +12,7 @@ pub struct Name {
 impl Name {
     ghost use Rattle.std.specs.Prelude.{◌≡◌};
     ghost use Rattle.lit_base.specs.Rounds.{original};
+    ghost use Rattle.lit_base.specs.Held.{is_before};
 
     /// The name of the original clause at this place of the formula, counted from 0.
     pub fn original(index: u32) -> Name
@@ -29,5 +30,13 @@ impl Name {
             core,
             index,
         }
+    }
+
+    /// Whether the name stands before another, by the order that names are compared in: by period,
+    /// then by core, then by index.
+    pub fn is_before(self, other: Name) -> bool
+        ensures { result ≡ is_before self other }
+    {
+        self < other
     }
 }

@@ -1,11 +1,12 @@
 use crate::{
     Clause, Entry, Formula, List, Lit, Model, Name, NoMemory, Text, Value,
-    law_checked_proof_refutes, law_conflict_has_two_literals, law_conflict_refutes,
-    law_empty_lemma_decides, law_fixed_point_is_quiet, law_found_more_follows,
-    law_full_trail_satisfies, law_hints_are_distinct, law_jump_fits, law_lesson_follows,
-    law_lesson_is_asserting, law_model_has_each_value, law_originals_are_found,
-    law_propagation_fits, law_root_lesson_is_empty, law_rounds_suffice, law_small_lesson,
-    law_small_proofs,
+    law_checked_proof_refutes, law_conflict_has_two_literals, law_conflict_is_least,
+    law_conflict_refutes, law_empty_lemma_decides, law_few_hints, law_fixed_point_is_quiet,
+    law_found_more_follows, law_full_trail_satisfies, law_hints_are_distinct, law_jump_fits,
+    law_lesson_follows, law_lesson_is_asserting, law_lesson_literals, law_model_has_each_value,
+    law_names_are_ordered, law_originals_are_found, law_propagation_fits, law_root_lesson_is_empty,
+    law_rounds_suffice, law_small_lesson, law_small_proofs, law_touched_variables,
+    law_units_by_name,
 };
 use std::alloc::Global;
 use std::process::Abort;
@@ -197,6 +198,7 @@ fn names_are_ordered_as_in_a_dictionary(rt: HostRuntime) {
     for (i, low) in rising.iter().enumerate() {
         for (j, high) in rising.iter().enumerate() {
             assert!(rt; low.cmp(high) == i.cmp(&j), "at {i} and {j}");
+            assert!(rt; low.is_before(*high) == (i < j), "at {i} and {j}");
         }
     }
 }
@@ -259,6 +261,12 @@ fn laws_can_be_called(_rt: HostRuntime) {
     law_originals_are_found();
     law_conflict_refutes();
     law_small_lesson();
+    law_lesson_literals();
+    law_touched_variables();
+    law_few_hints();
+    law_conflict_is_least();
+    law_units_by_name();
+    law_names_are_ordered();
     law_jump_fits();
     law_fixed_point_is_quiet();
     law_conflict_has_two_literals();

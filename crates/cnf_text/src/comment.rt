@@ -1,0 +1,15 @@
+ghost use Rattle.std.specs.Prelude.{◌≡◌};
+ghost use Rattle.std.specs.List.{position_or_len};
+ghost use Rattle.cnf_text.specs.Pieces.{is_line_feed};
+
+/// How many bytes stand before the first LF, or how many there are.
+///
+/// A comment is passed by this search alone: files may be mostly comments, and a step for each byte is slow.
+pub(crate) fn comment_len(bytes: &[u8]) -> usize
+    ensures { result ≡ position_or_len is_line_feed bytes.now }
+{
+    bytes
+        .iter()
+        .position(|byte| *byte == b'\n')
+        .unwrap_or(bytes.len())
+}

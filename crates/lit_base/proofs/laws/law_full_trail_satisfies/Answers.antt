@@ -1,5 +1,0 @@
-use Rattle.lit_base.proofs.FullTrail.{satisfies_full}
-use Rattle.lit_base.proofs.laws.law_full_trail_satisfies.Goals as goal
-
-pub returns : goal.returns
-returns c = satisfies_full

@@ -1,5 +1,0 @@
-use Rattle.lit_base.proofs.lesson_laws.law_hints_are_distinct.Goals as goal
-use Rattle.lit_base.proofs.HintsDistinct.{hints_distinct}
-
-pub returns : goal.returns
-returns c = hints_distinct

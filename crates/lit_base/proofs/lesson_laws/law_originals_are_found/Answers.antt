@@ -1,5 +1,0 @@
-use Rattle.lit_base.proofs.lesson_laws.law_originals_are_found.Goals as goal
-use Rattle.lit_base.proofs.OriginalsFound.{originals_found}
-
-pub returns : goal.returns
-returns c = originals_found

@@ -1,5 +1,0 @@
-use Rattle.lit_base.proofs.lesson_laws.law_propagation_fits.Goals as goal
-use Rattle.lit_base.proofs.PropagationFits.{propagation_fits}
-
-pub returns : goal.returns
-returns c = propagation_fits

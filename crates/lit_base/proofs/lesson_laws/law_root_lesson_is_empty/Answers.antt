@@ -1,5 +1,0 @@
-use Rattle.lit_base.proofs.lesson_laws.law_root_lesson_is_empty.Goals as goal
-use Rattle.lit_base.proofs.RootLesson.{root_lesson_empty}
-
-pub returns : goal.returns
-returns c = root_lesson_empty

@@ -1,5 +1,0 @@
-use Rattle.lit_base.proofs.FixIsQuiet.{fix_quiet}
-use Rattle.lit_base.proofs.quiet_laws.law_fixed_point_is_quiet.Goals as goal
-
-pub returns : goal.returns
-returns c = fix_quiet

@@ -1,5 +1,0 @@
-use Rattle.lit_base.proofs.Asserting.{lesson_asserting}
-use Rattle.lit_base.proofs.quiet_laws.law_lesson_is_asserting.Goals as goal
-
-pub returns : goal.returns
-returns c = lesson_asserting
