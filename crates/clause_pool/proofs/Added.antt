@@ -2,14 +2,17 @@
 use Rattle.std.proofs.Common.{◌≡◌, ℕ, ◌+◌, ◌-◌, ◌≤◌, true, cond, ◌&&◌, List, [], ◌∷◌, ◌++◌, length, take, drop, reverse, refl, ap, sym, ◌∙◌, subst, arith}
 use Rattle.std.specs.Prelude.{Some, None, slice_range}
 use Rattle.std.proofs.lemmas.List.{take-append-le, drop-append-le, drop_at, take_all, length-drop, length-append, length-reverse, reverse-append}
-use Rattle.lit_base.specs.Literal.{Literal}
+use Rattle.std.specs.List.{IsDistinct}
+use Rattle.lit_base.specs.Literal.{Literal, same}
 use Rattle.lit_base.specs.Named.{same_name, lits_at}
 use Rattle.lit_base.specs.Held.{HeldClause, clauses_of, is_original, with_clause, volume_of}
 use Rattle.lit_base.specs.declared.name.Name.{Name}
+use Rattle.lit_base.proofs.HeldClauses.{all-with}
 use Rattle.clause_pool.specs.declared.slot.Slot.{Slot}
 use Rattle.clause_pool.specs.declared.index.Index.{Index}
 use Rattle.clause_pool.specs.Arena.{clause_in, held_of, slot_at, place_at, AreApart, AreWithin}
 use Rattle.clause_pool.specs.Places.{place_in, IsPool}
+use Rattle.clause_pool.specs.Rising.{HaveDistinctLits}
 use Rattle.clause_pool.proofs.ClauseAt.{none_from_map, clause_at-none}
 use Rattle.clause_pool.proofs.SlotAt.{place_at-none, clause_at-held_of}
 use Rattle.clause_pool.proofs.Volume.{weight_of, volume_of-with}
@@ -78,10 +81,10 @@ place_at-new slots name s n live is =
 
 -- what the pool keeps, with the new clause
 pub is_pool-new : (before after : Index) (literals lits : List Literal) (slots : List Slot) (volume : ℕ) (name : Name) (s : Slot) →
-    IsPool before literals slots volume → lits_at (clauses_of (held_of literals slots)) name ≡ None → IsNewSlot literals lits name s →
+    IsPool before literals slots volume → lits_at (clauses_of (held_of literals slots)) name ≡ None → IsDistinct same lits → IsNewSlot literals lits name s →
     ((n : Name) → place_in after n ≡ cond (same_name name n) (Some (length slots)) (place_in before n)) →
     IsPool after (literals ++ lits) (s ∷ slots) (volume + weight_of (is_original name))
-is_pool-new before after literals lits slots volume name s pool free new placed =
+is_pool-new before after literals lits slots volume name s pool free distinct new placed =
     let start : s.from ≡ length literals = new.from_is in
     let end : s.to ≡ length literals + length lits = new.to_is in
     let sum : length (literals ++ lits) ≡ length literals + length lits = length-append literals lits in
@@ -91,6 +94,8 @@ is_pool-new before after literals lits slots volume name s pool free new placed 
       found = λ n. placed n ∙ (ap (λ o. cond (same_name name n) (Some (length slots)) o) (pool.found n) ∙ sym (place_at-new slots name s n new.live new.name_is));
       counted = ap (λ count. count + weight_of (is_original name)) pool.counted
           ∙ (sym (volume_of-with (record { name = name; lits = lits; uses = s.uses }) (held_of literals slots)) ∙ sym (ap volume_of (held_of-new literals lits slots name s pool.within new)));
+      distinct = subst (λ held. HaveDistinctLits (clauses_of held)) (sym (held_of-new literals lits slots name s pool.within new))
+          (all-with (λ c. IsDistinct same c.lits) (record { name = name; lits = lits; uses = s.uses }) (held_of literals slots) distinct pool.distinct);
     }
 
 -- the slots, the newest first, with one more at the end of the list
@@ -133,12 +138,12 @@ held_of-added before after literals grown lits items more name s place within ad
 
 -- what the pool keeps afterwards
 pub is_pool-added : (before after : Index) (literals grown lits : List Literal) (items more : List Slot) (volume : ℕ) (name : Name) (s : Slot) (place weight : ℕ) →
-    IsPool before literals (reverse items) volume → lits_at (clauses_of (held_of literals (reverse items))) name ≡ None →
+    IsPool before literals (reverse items) volume → lits_at (clauses_of (held_of literals (reverse items))) name ≡ None → IsDistinct same lits →
     IsAdded before after literals grown lits items more name s place → weight ≡ weight_of (is_original name) → IsPool after grown (reverse more) (volume + weight)
-is_pool-added before after literals grown lits items more volume name s place weight pool free added counts =
+is_pool-added before after literals grown lits items more volume name s place weight pool free distinct added counts =
     let size : place ≡ length (reverse items) = added.place_is ∙ sym (length-reverse items) in
     let placed = λ (n : Name). added.placed n ∙ ap (λ p. cond (same_name name n) (Some p) (place_in before n)) size in
     subst (λ arena. IsPool after arena (reverse more) (volume + weight)) (sym added.literals_are)
     (subst (λ slots. IsPool after (literals ++ lits) slots (volume + weight)) (sym (reverse-push items more s added.slots_are))
     (subst (λ w. IsPool after (literals ++ lits) (s ∷ reverse items) (volume + w)) (sym counts)
-    (is_pool-new before after literals lits (reverse items) volume name s pool free added.new placed)))
+    (is_pool-new before after literals lits (reverse items) volume name s pool free distinct added.new placed)))

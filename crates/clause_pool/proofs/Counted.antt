@@ -6,14 +6,15 @@ use Rattle.std.proofs.lemmas.List.{length-map, with_items_is}
 use Rattle.std.specs.Vec.{with_items}
 use Rattle.lit_base.specs.Literal.{Literal}
 use Rattle.lit_base.specs.Named.{same_name}
-use Rattle.lit_base.specs.Held.{HeldClause, is_before, is_original, is_among, with_clause, with_use, with_uses, volume_of}
+use Rattle.lit_base.specs.Held.{HeldClause, clause_of, clauses_of, is_before, is_original, is_among, with_clause, with_use, with_uses, volume_of}
 use Rattle.lit_base.specs.declared.name.Name.{Name}
-use Rattle.lit_base.proofs.HeldClauses.{same_name-true, same_name-itself}
+use Rattle.lit_base.proofs.HeldClauses.{same_name-true, same_name-itself, clauses_of-with_uses}
 use Rattle.clause_pool.specs.declared.slot.Slot.{Slot}
 use Rattle.clause_pool.specs.declared.index.Index.{Index}
 use Rattle.clause_pool.specs.Arena.{clause_in, held_of, is_slot_of, place_at, without_count, AreApart}
 use Rattle.clause_pool.specs.Uses.{without_uses}
 use Rattle.clause_pool.specs.Places.{IsPool}
+use Rattle.clause_pool.specs.Rising.{HaveDistinctLits}
 use Rattle.clause_pool.proofs.Edited.{edited, map-reverse, within-map}
 use Rattle.clause_pool.proofs.Volume.{weight_of, volume_of-cons}
 
@@ -51,6 +52,7 @@ pub record ChangesUses (literals : List Literal) (f : Slot → Slot) (g : HeldCl
   pub part : (s : Slot) → ((f s).from ≡ s.from) × ((f s).to ≡ s.to)
   pub clause : (s : Slot) → s.is_live ≡ true → clause_in literals (f s) ≡ g (clause_in literals s)
   pub names : (c : HeldClause) → (g c).name ≡ c.name
+  pub lits : (held : List HeldClause) → clauses_of (map g held) ≡ clauses_of held
 
 changed_first : (literals : List Literal) (f : Slot → Slot) (g : HeldClause → HeldClause) → ChangesUses literals f g → (s : Slot) (older : List Slot) →
     held_of literals (map f older) ≡ map g (held_of literals older) → held_of literals (map f (s ∷ older)) ≡ map g (held_of literals (s ∷ older))
@@ -103,6 +105,7 @@ is_pool-changed places literals f g changes slots volume pool = record {
   apart = apart-changed f changes.live changes.name slots pool.apart;
   found = λ n. pool.found n ∙ sym (place_at-changed f changes.live changes.name slots n);
   counted = pool.counted ∙ (sym (volume_of-map g changes.names (held_of literals slots)) ∙ sym (ap volume_of (held_of-changed literals f g changes slots)));
+  distinct = subst HaveDistinctLits (sym (ap clauses_of (held_of-changed literals f g changes slots) ∙ changes.lits (held_of literals slots))) pool.distinct;
 }
 
 -- a slot with one use more
@@ -134,6 +137,7 @@ counts_use literals n lemma = record {
       ∙ cond_both (same_name s.name n) (one_more s) s (λ t. clause_in literals t ≡ with_use (n ∷ []) (clause_in literals s))
       (λ here. sym (with_use-here n (clause_in literals s) lemma here)) (λ elsewhere. sym (with_use-elsewhere n (clause_in literals s) elsewhere));
   names = λ c. cond_both (not (is_original c.name) && is_among (n ∷ []) c.name) (record c { uses = c.uses + 1 }) c (λ d. d.name ≡ c.name) (λ t. refl) (λ f. refl);
+  lits = λ held. clauses_of-with_uses (n ∷ []) held;
 }
 
 -- a use of an original isn't counted
@@ -152,6 +156,11 @@ with_uses-original n [] original = refl
 with_uses-original n (c ∷ later) original =
     ap (λ d. d ∷ with_uses (n ∷ []) later) (original_unused n c original) ∙ ap (λ others. c ∷ others) (with_uses-original n later original)
 
+-- clearing uses changes no clause
+clauses_of-cleared : (held : List HeldClause) → clauses_of (map without_uses held) ≡ clauses_of held
+clauses_of-cleared [] = refl
+clauses_of-cleared (c ∷ later) = ap (λ others. clause_of c ∷ others) (clauses_of-cleared later)
+
 -- clearing the uses of all slots clears those of the clauses
 pub clears_uses : (literals : List Literal) → ChangesUses literals without_count without_uses
 clears_uses literals = record {
@@ -160,6 +169,7 @@ clears_uses literals = record {
   part = λ s. (refl, refl);
   clause = λ s live. refl;
   names = λ c. refl;
+  lits = clauses_of-cleared;
 }
 
 -- the slots of a vector after all of them were cleared

@@ -3,14 +3,15 @@ use Rattle.std.proofs.Common.{◌≡◌, ℕ, ◌+◌, Bool, true, false, not, c
 use Rattle.std.specs.Prelude.{Option, Some, None, IsTrue, filter, is_some}
 use Rattle.std.proofs.lemmas.Bool.{cond_both, cond-true, cond-false, and_parts, and_left, and_right}
 use Rattle.std.proofs.lemmas.List.{length-map}
-use Rattle.lit_base.specs.Literal.{Literal}
+use Rattle.std.specs.List.{IsDistinct}
+use Rattle.lit_base.specs.Literal.{Literal, same}
 use Rattle.lit_base.specs.Named.{same_name}
-use Rattle.lit_base.specs.Held.{HeldClause, is_before, is_original, is_among, with_clause, without_names, volume_of}
+use Rattle.lit_base.specs.Held.{HeldClause, clauses_of, is_before, is_original, is_among, with_clause, without_names, volume_of}
 use Rattle.lit_base.specs.declared.name.Name.{Name}
-use Rattle.lit_base.proofs.HeldClauses.{same_name-true}
+use Rattle.lit_base.proofs.HeldClauses.{same_name-true, all-without}
 use Rattle.clause_pool.specs.declared.slot.Slot.{Slot}
 use Rattle.clause_pool.specs.declared.index.Index.{Index}
-use Rattle.clause_pool.specs.Rising.{AreRising}
+use Rattle.clause_pool.specs.Rising.{AreRising, HaveDistinctLits}
 use Rattle.clause_pool.specs.Arena.{clause_in, held_of, is_slot_of, place_at, AreApart}
 use Rattle.clause_pool.specs.Places.{place_in, IsPool}
 use Rattle.clause_pool.proofs.Order.{IsFirst, first-trans, ordered-held_of}
@@ -206,4 +207,6 @@ is_pool-dropped before after literals n slots volume less lemma held pool remove
       let rest = volume_of-dropped literals n slots lemma pool.apart held in
       let counted = pool.counted in
       omega arith;
+  distinct = subst (λ held. HaveDistinctLits (clauses_of held)) (sym (held_of-dropped literals n slots pool.apart))
+      (all-without (λ c. IsDistinct same c.lits) (n ∷ []) (held_of literals slots) pool.distinct);
 }

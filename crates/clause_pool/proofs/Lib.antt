@@ -8,3 +8,4 @@ pub mod Counted
 pub mod Dropped
 pub mod DroppedNames
 pub mod Packed
+pub mod DistinctClause

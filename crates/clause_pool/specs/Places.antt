@@ -2,11 +2,12 @@
 use Rattle.std.specs.Prelude.{◌≡◌, ℕ, nat_eq, ◌&&◌, List, length, Option}
 use Rattle.std.specs.HashMap.{get}
 use Rattle.lit_base.specs.Literal.{Literal}
-use Rattle.lit_base.specs.Held.{volume_of}
+use Rattle.lit_base.specs.Held.{clauses_of, volume_of}
 use Rattle.lit_base.specs.declared.name.Name.{Name}
 use Rattle.clause_pool.specs.declared.slot.Slot.{Slot}
 use Rattle.clause_pool.specs.declared.index.Index.{Index}
 use Rattle.clause_pool.specs.Arena.{held_of, place_at, AreApart, AreWithin}
+use Rattle.clause_pool.specs.Rising.{HaveDistinctLits}
 
 -- the place that the index has for a name
 unfoldable pub place_in : Index → Name → Option ℕ
@@ -23,3 +24,4 @@ pub record IsPool (places : Index) (literals : List Literal) (slots : List Slot)
   pub apart : AreApart slots
   pub found : IsIndexOf places slots
   pub counted : volume ≡ volume_of (held_of literals slots)
+  pub distinct : HaveDistinctLits (clauses_of (held_of literals slots))

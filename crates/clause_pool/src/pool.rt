@@ -1,10 +1,11 @@
-ghost use Rattle.std.specs.Prelude.{◌≡◌, ◌+◌, ◌<◌, ◌≤◌, ◌^◌, [], ◌∷◌, length, IsTrue, is_some, IsSome, Some, None, false, All, IfOk, OnOk, OnErr};
+ghost use Rattle.std.specs.Prelude.{◌≡◌, ◌+◌, ◌<◌, ◌≤◌, ◌^◌, [], ◌∷◌, length, slice_range, IsTrue, is_some, IsSome, Some, None, false, All, IfOk, OnOk, OnErr};
 ghost use Rattle.std.specs.Option.{ForSome};
 ghost use Rattle.std.specs.List.{IsDistinct};
+ghost use Rattle.lit_base.specs.Literal.{same};
 ghost use Rattle.lit_base.specs.Named.{same_name, lits_at};
 ghost use Rattle.lit_base.specs.Held.{clauses_of, is_original, with_clause, with_uses, without_names, volume_of};
 ghost use Rattle.clause_pool.specs.Uses.{uses_of, cleared};
-ghost use Rattle.clause_pool.specs.Rising.{IsOrdered};
+ghost use Rattle.clause_pool.specs.Rising.{IsOrdered, HaveDistinctLits};
 ghost use Rattle.clause_pool.specs.Arena.{with_slot};
 
 use crate::arena::{
@@ -62,12 +63,13 @@ impl Pool {
         }
     }
 
-    /// Adds a clause under a name that isn't held. After `NoMemory` the pool is unchanged.
+    /// Adds a clause of distinct literals under a name that isn't held. After `NoMemory` the pool is unchanged.
     ///
     /// `NoMemory` also where the arena would hold more than 4,294,967,295 literals or clauses, with those dropped ones
     /// whose room isn't taken back yet.
     pub fn add(&mut self, name: Name, lits: &[Lit]) -> Result<(), NoMemory>
-        requires { lits_at (clauses_of self.old) name ≡ None }
+        requires free { lits_at (clauses_of self.old) name ≡ None }
+        requires distinct { IsDistinct same lits.now }
         ensures ok { OnOk result (self.new ≡ with_clause (record { name = name; lits = lits.now; uses = 0 }) self.old) }
         ensures err { OnErr result (self.new ≡ self.old) }
     {
@@ -88,10 +90,24 @@ impl Pool {
         part(&self.literals, slot.from, slot.to)
     }
 
+    /// The literals of a held clause, as `lits` gives them, and with its step.
+    ///
+    /// `place` is where the clause is believed to stand. Any number will do; it is put right, so that the next call with it
+    /// finds the clause at once.
+    pub fn lits_near<L: Ledger>(&self, name: Name, place: &mut u32, steps: &mut Steps<L>) -> &[Lit]
+        requires { IsSome (lits_at (clauses_of self.now) name) }
+        ensures lits { lits_at (clauses_of self.now) name ≡ Some result.now }
+        ensures steps { steps.new ≡ steps.old + 1 }
+    {
+        self.put_right(name, place);
+        self.lits(name, steps)
+    }
+
     /// Whether a clause of this name is held.
     pub fn held(&self, name: Name) -> bool
         ensures value { result ≡ is_some (lits_at (clauses_of self.now) name) }
         ensures ordered { IsOrdered self.now }
+        ensures distinct { HaveDistinctLits (clauses_of self.now) }
     {
         let _ = &self.slots;
         self.index.get(name).is_some()
@@ -101,6 +117,7 @@ impl Pool {
     pub fn volume(&self) -> u64
         ensures value { result ≡ volume_of self.now }
         ensures ordered { IsOrdered self.now }
+        ensures distinct { HaveDistinctLits (clauses_of self.now) }
     {
         self.volume
     }
@@ -111,6 +128,15 @@ impl Pool {
         ensures { uses_of self.now name ≡ Some result }
     {
         slot_of(&self.index, &self.slots, name).uses
+    }
+
+    /// The uses of a held clause, as `uses` gives them; `place` as for `lits_near`.
+    pub fn uses_near(&self, name: Name, place: &mut u32) -> u64
+        requires { IsSome (lits_at (clauses_of self.now) name) }
+        ensures { uses_of self.now name ≡ Some result }
+    {
+        self.put_right(name, place);
+        self.uses(name)
     }
 
     /// Counts a use of a held clause; uses of originals aren't counted.
@@ -125,6 +151,16 @@ impl Pool {
         let place = place_of(&self.index, &self.slots, name);
         let slot = &mut self.slots[place];
         slot.uses += 1;
+    }
+
+    /// Counts a use of a held clause, as `count_use` does; `place` as for `lits_near`.
+    pub fn count_use_near(&mut self, name: Name, place: &mut u32)
+        requires held { IsSome (lits_at (clauses_of self.old) name) }
+        requires fits { ForSome (uses_of self.old name) (λ uses. uses + 1 < 2 ^ 64) }
+        ensures { self.new ≡ with_uses (name ∷ []) self.old }
+    {
+        self.put_right(name, place);
+        self.count_use(name);
     }
 
     /// Begins to count all uses anew.
@@ -146,6 +182,13 @@ impl Pool {
         }
     }
 
+    /// Writes the place of a clause over what it was believed to be.
+    fn put_right(&self, name: Name, place: &mut u32) {
+        if let Some(found) = self.index.get(name) {
+            *place = found;
+        }
+    }
+
     /// Drops one clause.
     fn drop_name(&mut self, name: Name)
         requires held { IsSome (lits_at (clauses_of self.old) name) }
@@ -162,7 +205,8 @@ impl Pool {
 
     /// Adds a clause that was a hint so often. After `NoMemory` the pool is unchanged.
     fn put(&mut self, name: Name, lits: &[Lit], uses: u64) -> Result<(), NoMemory>
-        requires { lits_at (clauses_of self.old) name ≡ None }
+        requires free { lits_at (clauses_of self.old) name ≡ None }
+        requires distinct { IsDistinct same lits.now }
         ensures ok { OnOk result (self.new ≡ with_clause (record { name = name; lits = lits.now; uses = uses }) self.old) }
         ensures err { OnErr result (self.new ≡ self.old) }
     {
@@ -197,6 +241,7 @@ impl Pool {
         requires order { slot.now.from ≤ slot.now.to }
         requires within { slot.now.to ≤ length literals.now }
         requires free { IsTrue slot.now.is_live → lits_at (clauses_of self.old) slot.now.name ≡ None }
+        requires distinct { IsTrue slot.now.is_live → IsDistinct same (slice_range literals.now slot.now.from slot.now.to) }
         ensures { OnOk result (self.new ≡ with_slot literals.now slot.now self.old) }
     {
         if !slot.is_live {

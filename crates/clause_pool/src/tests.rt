@@ -3,7 +3,7 @@ ghost use Rattle.lit_base.specs.Named.{lits_at};
 ghost use Rattle.lit_base.specs.Held.{clauses_of};
 
 use crate::{Pool, Steps};
-use lit_base::{Lit, Name};
+use lit_base::{Clause, Lit, Name};
 use std::alloc::Global;
 use std::marker::Brand;
 use std::process::Abort;
@@ -23,7 +23,8 @@ fn add(
         lits.push(Lit::new(*number).expect(rt, "a literal"))?;
     }
     assert!(rt; !pool.held(name));
-    pool.add(name, &lits)?;
+    let clause = Clause::of(alloc, &lits)?;
+    pool.add(name, clause.lits())?;
     Ok(())
 }
 

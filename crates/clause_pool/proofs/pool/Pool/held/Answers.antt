@@ -2,7 +2,7 @@ use Rattle.std.proofs.Common.{◌∙◌, ap, sym, subst, reverse}
 use Rattle.std.specs.Prelude.{is_some}
 use Rattle.lit_base.specs.Named.{lits_at}
 use Rattle.lit_base.specs.Held.{clauses_of}
-use Rattle.clause_pool.specs.Rising.{IsOrdered}
+use Rattle.clause_pool.specs.Rising.{IsOrdered, HaveDistinctLits}
 use Rattle.clause_pool.proofs.Order.{ordered-held_of}
 use Rattle.clause_pool.proofs.SlotAt.{is_some-lits_at}
 use Rattle.clause_pool.proofs.pool.Pool.held.Goals as goal
@@ -19,3 +19,7 @@ returns-clause-value c =
 -- the clauses of the slots stand in order
 pub returns-clause-ordered : goal.returns-clause-ordered
 returns-clause-ordered c = subst IsOrdered c.self.view_is (ordered-held_of c.self.inside.literals.items (reverse c.self.inside.slots.items) c.self.invariant.apart)
+
+-- the literals of each are distinct
+pub returns-clause-distinct : goal.returns-clause-distinct
+returns-clause-distinct c = subst (λ held. HaveDistinctLits (clauses_of held)) c.self.view_is c.self.invariant.distinct

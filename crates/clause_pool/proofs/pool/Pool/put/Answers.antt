@@ -20,9 +20,9 @@ overflow_add-self c =
 -- the pool has one slot more
 pub invariant_of-self-2 : goal.invariant_of-self-2
 invariant_of-self-2 c =
-    let free = ap (λ held. lits_at (clauses_of held) c.args.name) c.self.view_is ∙ c.requires in
+    let free = ap (λ held. lits_at (clauses_of held) c.args.name) c.self.view_is ∙ c.requires.free in
     is_pool-added c.self.inside.index c.insert.new.self c.self.inside.literals.items c.put_literals-slot.new.literals.items c.args.lits.now c.self.inside.slots.items c.push_reserved.new.self.items
-    c.self.inside.volume c.args.name c.put_literals-slot.result c.in_ok-place.place c.weight_of.result c.self.invariant free
+    c.self.inside.volume c.args.name c.put_literals-slot.result c.in_ok-place.place c.weight_of.result c.self.invariant free c.requires.distinct
     (is_added _ _ _ _ _ _ _ _ _ _ _ _ _ c.make_room.ensures.literals c.make_room.ensures.slots c.put_literals-slot.ensures.slot c.put_literals-slot.ensures.literals c.push_reserved.ensures.items
     c.in_ok-place.ensures.place c.in_ok-insert.ensures.ok)
     c.weight_of.ensures
