@@ -6,13 +6,13 @@ abbrev pub folded : ℕ → ℕ → ℕ
 folded z bits = bit_xor z (z / 2 ^ bits)
 
 -- where the sequence of a seed stands at variable v of core i
-abbrev pub place_of : ℕ → ℕ → ℕ → ℕ
-place_of seed i v = (seed + 0x9e3779b97f4a7c15 * (1 + i * 2 ^ 32 + v)) % 2 ^ 64
+abbrev pub state_at : ℕ → ℕ → ℕ → ℕ
+state_at seed i v = (seed + 0x9e3779b97f4a7c15 * (1 + i * 2 ^ 32 + v)) % 2 ^ 64
 
 -- the noise of variable v of core i
 abbrev pub noise : ℕ → ℕ → ℕ → ℕ
 noise seed i v =
-    let once = folded (place_of seed i v) 30 * 0xbf58476d1ce4e5b9 % 2 ^ 64 in
+    let once = folded (state_at seed i v) 30 * 0xbf58476d1ce4e5b9 % 2 ^ 64 in
     let twice = folded once 27 * 0x94d049bb133111eb % 2 ^ 64 in
     folded twice 31
 

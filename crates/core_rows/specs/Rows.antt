@@ -1,5 +1,5 @@
 -- The table of the settings by which the cores differ.
-use Rattle.std.specs.Prelude.{ℕ, ◌/◌, ◌%◌, ◌==◌, Bool, ℤ, pos, neg_ℤ, List, [], ◌∷◌, slice_index_or}
+use Rattle.std.specs.Prelude.{ℕ, ◌/◌, ◌%◌, ◌==◌, ◌<◌, ◌≢◌, Bool, ℤ, pos, neg_ℤ, List, [], ◌∷◌, slice_get, slice_index_or}
 use Rattle.core_rows.specs.declared.row.Row.{Row}
 
 -- the row of these settings
@@ -19,6 +19,10 @@ rows_with phase =
     ∷ row_with phase 150 2 300 14 (neg_ℤ (pos 1))
     ∷ row_with phase 25 5 50 16 (pos 1)
     ∷ []
+
+-- two different indexes below n have different rows
+abbrev pub DifferBelow : ℕ → List Row → Type 0
+DifferBelow n rows = (i j : ℕ) → i < n → j < n → i ≢ j → slice_get rows i ≢ slice_get rows j
 
 -- row i: the settings of pair i / 2, with phase true where i is odd; past the table, the first settings
 abbrev pub row_of : ℕ → Row

@@ -1,28 +1,32 @@
-ghost use Rattle.std.specs.Prelude.{◌≡◌, ◌<◌, ℕ, slice_get, Some};
+ghost use Rattle.std.specs.Prelude.{◌≡◌, ◌≢◌, ◌<◌, ℕ, slice_get, Some};
 ghost use Rattle.core_rows.specs.Rows.{row_of};
 
 use crate::row::Row;
 
-/// A table of `R` rows, seen by contracts as their list.
+/// A table of `R` rows, no two of them the same, seen by contracts as their list.
 #[derive(Debug, Drop)]
 pub struct RowTable<const R: usize> {
-    rows: [Row; R],
+    pub(crate) rows: [Row; R],
 }
 
 impl<const R: usize> std::marker::Model for RowTable<R> {
     ghost use Rattle.std.specs.Prelude.{List};
     ghost use Rattle.core_rows.specs.declared.row.Row.{Row};
+    ghost use Rattle.core_rows.specs.Rows.{DifferBelow};
 
     ghost Value = { List Row };
 
     ghost view = { λ table. table.rows };
+
+    ghost invariant = { λ table. DifferBelow R table.rows };
 }
 
 impl<const R: usize> RowTable<R> {
     /// The row at `i`, counted from 0.
     pub fn row(&self, i: usize) -> Row
         requires { i < R }
-        ensures { slice_get self.now i ≡ Some result }
+        ensures value { slice_get self.now i ≡ Some result }
+        ensures differs { (j : ℕ) → j < R → i ≢ j → slice_get self.now j ≢ Some result }
     {
         self.rows[i]
     }

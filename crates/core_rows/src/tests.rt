@@ -1,6 +1,6 @@
 ghost use Rattle.std.specs.Prelude.{◌≡◌};
 
-use crate::{Row, law_rows_differ, noise, share_of, shipped, start_activity};
+use crate::{Row, law_rows_differ, law_share_limit, noise, share_of, shipped, start_activity};
 
 /// A row of which only the noise and the share matter.
 fn row_with(noise: u32, share: i32) -> Row
@@ -21,7 +21,20 @@ fn rows_noise_and_limits_are_as_told(rt: HostRuntime) {
     let table = shipped();
     for (i, phase, unit, weight, halve, noise, share) in [
         (0, false, 100, 1, 256, 0, 0),
+        (1, true, 100, 1, 256, 0, 0),
+        (2, false, 50, 2, 128, 4, 0),
+        (3, true, 50, 2, 128, 4, 0),
+        (4, false, 200, 1, 512, 8, -2),
         (5, true, 200, 1, 512, 8, -2),
+        (6, false, 30, 4, 64, 6, 2),
+        (7, true, 30, 4, 64, 6, 2),
+        (8, false, 400, 1, 1024, 10, -4),
+        (9, true, 400, 1, 1024, 10, -4),
+        (10, false, 75, 3, 200, 12, 4),
+        (11, true, 75, 3, 200, 12, 4),
+        (12, false, 150, 2, 300, 14, -1),
+        (13, true, 150, 2, 300, 14, -1),
+        (14, false, 25, 5, 50, 16, 1),
         (15, true, 25, 5, 50, 16, 1),
     ] {
         assert!(rt; i < 16);
@@ -53,5 +66,6 @@ fn rows_noise_and_limits_are_as_told(rt: HostRuntime) {
     ] {
         assert_eq!(rt; share_of(&row_with(0, share), asked), told);
     }
-    law_rows_differ();
+    law_rows_differ(&table);
+    law_share_limit();
 }

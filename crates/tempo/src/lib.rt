@@ -1,7 +1,7 @@
 //! When a core restarts, by the sequence of Luby, Sinclair and Zuckerman (1993).
 #![tactic(auto)]
 
-pub use laws::law_luby;
+pub use laws::{law_luby, law_restarts};
 pub use sequence::luby;
 pub use tempo::Tempo;
 

@@ -1,9 +1,10 @@
-use crate::{Tempo, law_luby, luby};
+use crate::{Tempo, law_luby, law_restarts, luby};
 use std::test::Fail;
 
 #[test]
 fn values_and_restarts_are_those_of_the_sequence(rt: HostRuntime) -> Result<(), Fail> {
     law_luby();
+    law_restarts();
     let values = [1, 1, 2, 1, 1, 2, 4, 1, 1, 2, 1, 1, 2, 4, 8];
     for (i, value) in values.iter().enumerate() {
         let place = i as u32 + 1;

@@ -1,21 +1,12 @@
 -- The best of the variables up to one of them.
-use Rattle.std.proofs.Common.{◌≡◌, ℕ, zero, suc, ◌≤◌, Bool, true, false, cond, not, ◌&&◌, List, length, [], ◌∷◌, refl, ap, ◌∙◌, sym, subst, arith, ◌⊎◌, inl, inr}
-use Rattle.std.specs.Prelude.{Option, Some, None, is_none, ◌==◌, nat_lt}
+use Rattle.std.proofs.Common.{◌≡◌, ℕ, zero, suc, ◌≤◌, Bool, true, false, cond, not, ◌&&◌, List, length, refl, ap, ◌∙◌, sym, subst, arith, ◌⊎◌, inl, inr}
+use Rattle.std.specs.Prelude.{Option, Some, None, nat_lt}
 use Rattle.std.proofs.lemmas.Bool.{and_from, ltb-true, ltb-false}
-use Rattle.lit_base.specs.Trail.{sign_of, is_free, is_full}
+use Rattle.lit_base.specs.Trail.{is_free, is_full}
+use Rattle.lit_base.proofs.FullTrail.{not_free}
 use Rattle.lit_base.specs.declared.trail.Entry.{Entry}
-use Rattle.trail_book.specs.TrailState.{place_of}
 use Rattle.var_order.specs.Order.{activity_at, beats, best_of, pick_of}
 use Rattle.var_order.specs.Laws.{IsChoice, IsBestChoice}
-
--- a variable is free where it has no place
-pub place_free : (trail : List Entry) (v : ℕ) → is_none (place_of trail v) ≡ is_free trail v
-place_free [] v = refl
-place_free (e ∷ older) v = by_test (e.lit.variable == v) (place_free older v)
-  where
-    by_test : (b : Bool) → is_none (place_of older v) ≡ is_free older v → is_none (cond b (Some (length older)) (place_of older v)) ≡ is_none (cond b (Some e.lit.positive) (sign_of older v))
-    by_test true later = refl
-    by_test false later = later
 
 -- what holds of the variables up to n and of the next one holds of those up to the next one
 up_to_next : (n : ℕ) (P : ℕ → Type 0) → P (suc n) → ((w : ℕ) → 1 ≤ w → w ≤ n → P w) → (w : ℕ) → 1 ≤ w → w ≤ suc n → P w
@@ -112,6 +103,23 @@ pub none_where_full : (activities : List ℕ) (trail : List Entry) → pick_of a
 unfolding BestUpTo
 none_where_full activities trail is =
     full_from_none_free (length activities) trail (subst (BestUpTo (length activities) activities trail) is (best_up_to (length activities) activities trail))
+
+-- two best choices are one
+one_best : (activities : List ℕ) (trail : List Entry) (v w : ℕ) → IsBestChoice activities trail v → IsBestChoice activities trail w → w ≡ v
+one_best activities trail v w best other =
+    let above = best.greatest w other.choice in
+    let below = other.greatest v best.choice in
+    omega (arith, above, below, best.lowest w other.choice (omega arith), other.lowest v best.choice (omega arith))
+
+-- the best choice is the variable that is picked
+pub best_is_pick : (activities : List ℕ) (trail : List Entry) (v : ℕ) → IsBestChoice activities trail v → pick_of activities trail ≡ Some v
+best_is_pick activities trail v best = by_pick (pick_of activities trail) refl
+  where
+    by_pick : (picked : Option ℕ) → pick_of activities trail ≡ picked → picked ≡ Some v
+    by_pick None is =
+        let taken = not_free (length activities) v trail (none_where_full activities trail is) best.choice.low best.choice.high in
+        cc (taken, best.choice.free)
+    by_pick (Some w) is = ap Some (one_best activities trail v w best (pick_is_best activities trail w is))
 
 -- a variable that is picked is within and free
 pub picked_choice : (activities same : List ℕ) (trail : List Entry) (picked : Option ℕ) (v : ℕ) → same ≡ activities → picked ≡ pick_of same trail → picked ≡ Some v → IsChoice activities trail v

@@ -22,6 +22,10 @@ pub record IsBestChoice (activities : List ℕ) (trail : List Entry) (v : ℕ) :
 abbrev pub PickIsBest : Type 0
 PickIsBest = (activities : List ℕ) (trail : List Entry) (v : ℕ) → pick_of activities trail ≡ Some v → IsBestChoice activities trail v
 
+-- the best choice is the variable that is picked
+abbrev pub BestIsPick : Type 0
+BestIsPick = (activities : List ℕ) (trail : List Entry) (v : ℕ) → IsBestChoice activities trail v → pick_of activities trail ≡ Some v
+
 -- where none is picked, the trail is full
 abbrev pub NoneWhereFull : Type 0
 NoneWhereFull = (activities : List ℕ) (trail : List Entry) → pick_of activities trail ≡ None → is_full (length activities) trail ≡ true

@@ -36,11 +36,6 @@ halved s = record s { activities = map (λ a. a / 2) s.activities }
 abbrev pub put_back : ℕ → OrderState → OrderState
 put_back v s = record s { present = slice_set s.present (v - 1) true }
 
--- the order without the variable that was picked, if one was
-abbrev pub taken_out : Option ℕ → OrderState → OrderState
-taken_out None s = s
-taken_out (Some v) s = record s { present = slice_set s.present (v - 1) false }
-
 -- whether a variable has a greater activity than the best so far, or is the first
 abbrev pub beats : List ℕ → Option ℕ → ℕ → Bool
 beats activities None v = true

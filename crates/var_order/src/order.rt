@@ -1,6 +1,6 @@
 ghost use Rattle.std.specs.Prelude.{◌≡◌, ℕ, ◌+◌, ◌≤◌, ◌<◌, ◌^◌, ◌/◌, ◌&&◌, ◌==◌, not, true, false, Option, Some, None, length, map, replicate, IfOk, IfSome, ◌≢◌};
 ghost use Rattle.lit_base.specs.Trail.{is_free};
-ghost use Rattle.var_order.specs.Order.{first_order, activity_at, activity_of, is_present, bumped, halved, put_back, taken_out, beats, pick_of};
+ghost use Rattle.var_order.specs.Order.{first_order, activity_at, activity_of, is_present, bumped, halved, put_back, beats, pick_of};
 ghost use Rattle.var_order.specs.Laws.{IsChoice};
 
 use lit_base::{List, NoMemory};
@@ -79,7 +79,8 @@ impl Order {
         ensures value { result ≡ pick_of self.old.activities trail.now.entries }
         ensures choice { IfSome result (λ v. IsChoice self.old.activities trail.now.entries v) }
         ensures activities { self.new.activities ≡ self.old.activities }
-        ensures taken { self.new ≡ taken_out result self.old }
+        ensures taken { IfSome result (λ v. is_present self.new v ≡ false) }
+        ensures fewer { (v : ℕ) → is_present self.new v ≡ true → is_present self.old v ≡ true }
         ensures others { (v : ℕ) → 1 ≤ v → is_free trail.now.entries v ≡ true → result ≢ Some v → is_present self.new v ≡ is_present self.old v }
     {
         let picked = best_free(self.activities.as_slice(), trail);
@@ -124,14 +125,6 @@ fn activity_at(activities: &[u64], var: u32) -> u64
     activities.get(place).copied().unwrap_or(0)
 }
 
-/// Whether a variable is free on the trail.
-#[tactic(auto, using(crate::proofs::Best::place_free))]
-fn is_free(trail: &Trail, var: u32) -> bool
-    ensures { result ≡ is_free trail.now.entries var }
-{
-    trail.place(var).is_none()
-}
-
 /// Whether a variable has a greater activity than the best so far, or is the first.
 fn beats(activities: &[u64], best: Option<u32>, var: u32) -> bool
     ensures { result ≡ beats activities.now best var }
@@ -150,7 +143,7 @@ fn best_free(activities: &[u64], trail: &Trail) -> Option<u32>
     let mut best = None;
     for place in 0..activities.len() {
         let var = place as u32 + 1;
-        if is_free(trail, var) && beats(activities, best, var) {
+        if trail.is_free(var) && beats(activities, best, var) {
             best = Some(var);
         }
     }

@@ -23,3 +23,14 @@ fn a_variable_is_picked_by_activity(rt: HostRuntime) -> Result<(), Fail> {
     order.put_back(1);
     Ok(())
 }
+
+#[test]
+fn none_is_picked_where_the_trail_is_full(rt: HostRuntime) -> Result<(), Fail> {
+    let mut start = List::new(rt.alloc());
+    start.push(5)?;
+    let mut order = Order::make(rt.alloc(), start)?;
+    let mut trail = Trail::with_room(rt.alloc(), 1)?;
+    trail.decide(Lit::of(1, true));
+    assert_eq!(rt; order.pick(&trail), None);
+    Ok(())
+}
