@@ -77,15 +77,3 @@ WritesWhole-front {done = done} rest parts front failed = record {
   failed = failed;
   others = front.others;
 }
-
--- and that front was written whole
-pub WritesWhole-done : {port : Port} {text : List ℕ} {start after : OutputsTold} {fault : PortFault} (stopped : WritesWhole port text start after (Err fault)) →
-    WritesWhole port stopped.written.done start after (Ok tt)
-WritesWhole-done stopped = record {
-  creates = stopped.creates;
-  names = stopped.names;
-  written = stopped.written.bytes;
-  later = stopped.later;
-  failed = tt;
-  others = stopped.others;
-}

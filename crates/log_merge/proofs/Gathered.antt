@@ -1,5 +1,5 @@
 -- Lemmas on a text that is gathered piece by piece.
-use Rattle.std.proofs.Common.{◌≡◌, ℕ, ◌+◌, ◌<◌, List, [], ◌∷◌, ◌++◌, length, take, drop, get_or, refl, sym, ap, ◌∙◌, append_assoc, append-nil, subst}
+use Rattle.std.proofs.Common.{◌≡◌, ℕ, ◌+◌, ◌<◌, List, [], ◌∷◌, ◌++◌, length, take, drop, get_or, sym, ap, ◌∙◌, append_assoc, append-nil, subst}
 use Rattle.std.specs.Prelude.{Result, Ok, Err, OnOk, IsErrAnd, flat_map}
 use Rattle.std.proofs.lemmas.List.{take-append-drop, take_more}
 use Rattle.std.proofs.lemmas.Grind.{flat_map-append}
@@ -8,7 +8,7 @@ use Rattle.desk_io.specs.declared.PortFault.{PortFault}
 use Rattle.desk_io.specs.declared.PortFault.TheVariants.{NoMemory}
 use Rattle.desk_io.specs.Told.{OutputsTold, Rose}
 use Rattle.desk_io.specs.Outputs.{WritesWhole, OnFailed}
-use Rattle.desk_io.proofs.Written.{WritesWhole-then, WritesWhole-front, WritesWhole-done, OnFailed-later}
+use Rattle.desk_io.proofs.Written.{WritesWhole-then, WritesWhole-front, OnFailed-later}
 use Rattle.log_merge.specs.Writing.{Gathers}
 
 -- the answer of a call that went well
@@ -19,19 +19,6 @@ fine = Ok tt
 pub Gathers-same : {text other held kept : List ℕ} {before after : OutputsTold} {result : Result (Unit {0}) PortFault} → text ≡ other →
     Gathers text held kept before after result → Gathers other held kept before after result
 Gathers-same {held = held} {kept = kept} {before = before} {after = after} {result = result} same = subst (λ text. Gathers text held kept before after result) same
-
--- all that the buffer held is written
-pub Gathers-flushed : {held kept : List ℕ} {before after : OutputsTold} (result : Result (Unit {0}) PortFault) → WritesWhole Log held before after result →
-    OnOk result (kept ≡ []) → Gathers [] held kept before after result
-Gathers-flushed {held} (Ok done) all emptied = record { done = held; rest = []; parts = refl; keeps = emptied; wrote = all; failed = tt }
-Gathers-flushed {held} (Err fault) front emptied = record {
-  done = front.written.done;
-  rest = front.written.rest;
-  parts = front.written.parts ∙ sym (append-nil held);
-  keeps = tt;
-  wrote = WritesWhole-done front;
-  failed = front.failed;
-}
 
 -- a text and then another are gathered as one
 pub Gathers-then : {first second held mid_held kept : List ℕ} {before mid after : OutputsTold} {result : Result (Unit {0}) PortFault} →
