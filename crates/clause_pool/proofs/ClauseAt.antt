@@ -1,11 +1,16 @@
 -- Finding a held clause by its name, whole: its literals and its uses.
-use Rattle.std.proofs.Common.{◌≡◌, Bool, true, false, cond, List, [], ◌∷◌, refl, ap, sym, ◌∙◌, subst}
+use Rattle.std.proofs.Common.{◌≡◌, ℕ, ◌<◌, ◌==◌, Bool, true, false, cond, List, [], ◌∷◌, length, refl, ap, sym, ◌∙◌, subst, arith}
 use Rattle.std.specs.Prelude.{Option, Some, None, option_map, find}
-use Rattle.std.proofs.lemmas.Bool.{both_ways, cond_both}
+use Rattle.std.proofs.lemmas.Bool.{both_ways, cond_both, cond-true, cond-false, eq-eqb, ne_eqb}
+use Rattle.std.proofs.lemmas.Option.{same_Some}
+use Rattle.std.proofs.lemmas.List.{length-map}
 use Rattle.lit_base.specs.Named.{same_name, lits_at}
 use Rattle.lit_base.specs.Held.{HeldClause, clauses_of, clause_of, is_before, with_clause}
 use Rattle.lit_base.specs.declared.name.Name.{Name}
 use Rattle.lit_base.proofs.HeldClauses.{same_name-true, lits_at-cons}
+use Rattle.clause_pool.specs.Arena.{at_place}
+use Rattle.clause_pool.specs.Slots.{row_names, place_at, AreApart}
+use Rattle.clause_pool.specs.Pooled.{held_of}
 
 -- the held clause with this name
 abbrev pub clause_at : List HeldClause → Name → Option HeldClause
@@ -64,3 +69,62 @@ clause_at-with c (d ∷ later) n free =
     (λ held. clause_at held n ≡ cond (same_name c.name n) (Some c) (clause_at (d ∷ later) n))
     (λ before. refl)
     (λ after. ap (λ o. cond (same_name d.name n) (Some d) o) (clause_at-with c later n apart.1) ∙ either_order c.name d.name n c d (clause_at later n) apart.0)
+
+-- a name that has no place has no clause
+pub clause_at-no_place : (rows : List HeldClause) (n : Name) → place_at (row_names rows) n ≡ None → clause_at rows n ≡ None
+clause_at-no_place [] n none = refl
+clause_at-no_place (c ∷ older) n none = by_test (same_name c.name n) none (clause_at-no_place older n)
+  where
+    by_test : (b : Bool) → cond b (Some (length (row_names older))) (place_at (row_names older) n) ≡ None → (place_at (row_names older) n ≡ None → clause_at older n ≡ None) →
+        cond b (Some c) (clause_at older n) ≡ None
+    by_test true none rest = cc
+    by_test false none rest = rest none
+
+-- and one that has no clause has no place
+pub place_at-no_clause : (rows : List HeldClause) (n : Name) → clause_at rows n ≡ None → place_at (row_names rows) n ≡ None
+place_at-no_clause [] n none = refl
+place_at-no_clause (c ∷ older) n none = by_test (same_name c.name n) none (place_at-no_clause older n)
+  where
+    by_test : (b : Bool) → cond b (Some c) (clause_at older n) ≡ None → (clause_at older n ≡ None → place_at (row_names older) n ≡ None) →
+        cond b (Some (length (row_names older))) (place_at (row_names older) n) ≡ None
+    by_test true none rest = cc
+    by_test false none rest = rest none
+
+-- in order the same clause is found
+pub clause_at-held_of : (rows : List HeldClause) (n : Name) → AreApart (row_names rows) → clause_at (held_of rows) n ≡ clause_at rows n
+clause_at-held_of [] n apart = refl
+clause_at-held_of (c ∷ older) n apart =
+    clause_at-with c (held_of older) n (clause_at-held_of older c.name apart.1 ∙ clause_at-no_place older c.name apart.0)
+    ∙ ap (λ o. cond (same_name c.name n) (Some c) o) (clause_at-held_of older n apart.1)
+
+-- the literals that are found are those of the clause
+pub lits_at-held_of : (rows : List HeldClause) (n : Name) → AreApart (row_names rows) → lits_at (clauses_of (held_of rows)) n ≡ option_map (λ c. c.lits) (clause_at rows n)
+lits_at-held_of rows n apart = lits_at-clause_at (held_of rows) n ∙ ap (λ o. option_map (λ c. c.lits) o) (clause_at-held_of rows n apart)
+
+-- a name that has no place has no literals
+pub lits_at-no_place : (rows : List HeldClause) (n : Name) → AreApart (row_names rows) → place_at (row_names rows) n ≡ None → lits_at (clauses_of (held_of rows)) n ≡ None
+lits_at-no_place rows n apart none = lits_at-held_of rows n apart ∙ ap (λ o. option_map (λ c. c.lits) o) (clause_at-no_place rows n none)
+
+-- a name that has no literals has no place
+pub place_at-free : (rows : List HeldClause) (n : Name) → AreApart (row_names rows) → lits_at (clauses_of (held_of rows)) n ≡ None → place_at (row_names rows) n ≡ None
+place_at-free rows n apart free = place_at-no_clause rows n (none_from_map (λ c. c.lits) (clause_at rows n) (sym (lits_at-held_of rows n apart) ∙ free))
+
+-- what stands at the place of a name is its clause
+pub at_place-clause_at : (rows : List HeldClause) (n : Name) (place : ℕ) → place_at (row_names rows) n ≡ Some place → (at_place rows place ≡ clause_at rows n) × (place < length rows)
+at_place-clause_at [] n place is = cc
+at_place-clause_at (c ∷ older) n place is = by_test (same_name c.name n) is (at_place-clause_at older n place)
+  where
+    size : length (row_names older) ≡ length older
+    size = length-map older (λ d. d.name)
+
+    by_test : (b : Bool) → cond b (Some (length (row_names older))) (place_at (row_names older) n) ≡ Some place →
+        (place_at (row_names older) n ≡ Some place → (at_place older place ≡ clause_at older n) × (place < length older)) →
+        (at_place (c ∷ older) place ≡ cond b (Some c) (clause_at older n)) × (place < length (c ∷ older))
+    by_test true is rest =
+        let here : length (row_names older) ≡ place = same_Some (length (row_names older)) place is in
+        let at : place ≡ length older = omega (arith, here, size) in
+        (cond-true (place == length older) (Some c) (at_place older place) (eq-eqb place (length older) at), omega arith)
+    by_test false is rest =
+        let later = rest is in
+        let inside : place < length older = later.1 in
+        (cond-false (place == length older) (Some c) (at_place older place) (ne_eqb place (length older) (λ at. omega arith)) ∙ later.0, omega arith)

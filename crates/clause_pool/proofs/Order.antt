@@ -3,14 +3,13 @@ use Rattle.std.proofs.Common.{◌≡◌, ℕ, Bool, true, false, ◌&&◌, ◌||
 use Rattle.std.specs.Prelude.{None, nat_lt, IsTrue}
 use Rattle.std.specs.List.{AllByRecursion}
 use Rattle.std.proofs.lemmas.Bool.{cond_both}
-use Rattle.lit_base.specs.Literal.{Literal}
 use Rattle.lit_base.specs.Named.{same_name, lits_at}
 use Rattle.lit_base.specs.Held.{HeldClause, clause_of, clauses_of, is_before, with_clause}
 use Rattle.lit_base.specs.declared.name.Name.{Name}
 use Rattle.lit_base.proofs.HeldClauses.{lits_at-none, found-with}
-use Rattle.clause_pool.specs.declared.slot.Slot.{Slot}
-use Rattle.clause_pool.specs.Arena.{clause_in, held_of, AreApart}
-use Rattle.clause_pool.proofs.SlotAt.{lits_at-no_place}
+use Rattle.clause_pool.specs.Slots.{row_names, AreApart}
+use Rattle.clause_pool.specs.Pooled.{held_of}
+use Rattle.clause_pool.proofs.ClauseAt.{lits_at-no_place}
 use Rattle.clause_pool.specs.Rising.{AreRising, IsOrdered}
 
 -- numbers are compared first, and the rest where they are equal: both orders are transitive
@@ -58,18 +57,13 @@ rising-with c (d ∷ later) free rising =
     (λ before. ((before, first-trans c.name d.name later before rising.0), rising))
     (λ after. (first-with d.name c later (is_before-other c.name d.name after apart.0) rising.0, rising-with c later apart.1 rising.1))
 
-ordered_first : (literals : List Literal) (s : Slot) (older : List Slot) → (IsTrue s.is_live → lits_at (clauses_of (held_of literals older)) s.name ≡ None) →
-    IsOrdered (held_of literals older) → IsOrdered (held_of literals (s ∷ older))
-ordered_first literals s older free later =
-    cond_both s.is_live (with_clause (clause_in literals s) (held_of literals older)) (held_of literals older) IsOrdered
-    (λ live. record {
-      rising = rising-with (clause_in literals s) (held_of literals older) (free live) later.rising;
-      found = found-with (clause_in literals s) (held_of literals older) (free live) later.found;
-    })
-    (λ dead. later)
-
--- the clauses of slots stand in order
-pub ordered-held_of : (literals : List Literal) (slots : List Slot) → AreApart slots → IsOrdered (held_of literals slots)
-ordered-held_of literals [] apart = record { rising = tt; found = tt }
-ordered-held_of literals (s ∷ older) apart =
-    ordered_first literals s older (λ live. lits_at-no_place literals older s.name apart.1 (apart.0 live)) (ordered-held_of literals older apart.1)
+-- clauses of distinct names stand in order
+pub ordered-held_of : (rows : List HeldClause) → AreApart (row_names rows) → IsOrdered (held_of rows)
+ordered-held_of [] apart = record { rising = tt; found = tt }
+ordered-held_of (c ∷ older) apart =
+    let later = ordered-held_of older apart.1 in
+    let free = lits_at-no_place older c.name apart.1 apart.0 in
+    record {
+      rising = rising-with c (held_of older) free later.rising;
+      found = found-with c (held_of older) free later.found;
+    }

@@ -1,11 +1,10 @@
 -- The number of lemmas among the held clauses.
-use Rattle.std.proofs.Common.{◌≡◌, ℕ, ◌+◌, ◌≤◌, Bool, true, false, not, cond, List, [], ◌∷◌, length, arith}
+use Rattle.std.proofs.Common.{◌≡◌, ℕ, ◌+◌, ◌≤◌, Bool, true, false, not, cond, List, [], ◌∷◌, ◌++◌, length, refl, arith}
 use Rattle.std.specs.Prelude.{filter}
 use Rattle.std.proofs.lemmas.Bool.{cond_both}
 use Rattle.lit_base.specs.Literal.{Literal}
 use Rattle.lit_base.specs.Held.{HeldClause, is_before, is_original, with_clause, volume_of}
-use Rattle.clause_pool.specs.declared.slot.Slot.{Slot}
-use Rattle.clause_pool.specs.Arena.{clause_in, held_of}
+use Rattle.clause_pool.specs.Pooled.{held_of, originals_of}
 
 -- what a clause counts: an original nothing, a lemma one
 abbrev pub weight_of : Bool → ℕ
@@ -37,14 +36,33 @@ pub weight-le : (b : Bool) → weight_of b ≤ 1
 weight-le true = omega arith
 weight-le false = omega arith
 
--- there are at most as many lemmas as slots
-pub volume_of-le : (literals : List Literal) (slots : List Slot) → volume_of (held_of literals slots) ≤ length slots
-volume_of-le literals [] = omega arith
-volume_of-le literals (s ∷ older) =
-    let rest = volume_of-le literals older in
-    cond_both s.is_live (with_clause (clause_in literals s) (held_of literals older)) (held_of literals older) (λ held. volume_of held ≤ length (s ∷ older))
-    (λ live.
-    let with = volume_of-with (clause_in literals s) (held_of literals older) in
-    let weight = weight-le (is_original s.name) in
-    omega arith)
-    (λ dead. omega arith)
+-- there are at most as many lemmas as clauses
+pub volume_of-le : (rows : List HeldClause) → volume_of rows ≤ length rows
+volume_of-le [] = omega arith
+volume_of-le (c ∷ older) =
+    let rest = volume_of-le older in
+    let one = volume_of-cons c older in
+    let weight = weight-le (is_original c.name) in
+    omega arith
+
+-- in order they are as many
+pub volume_of-held_of : (rows : List HeldClause) → volume_of (held_of rows) ≡ volume_of rows
+volume_of-held_of [] = refl
+volume_of-held_of (c ∷ older) =
+    let rest = volume_of-held_of older in
+    let one = volume_of-cons c older in
+    let with = volume_of-with c (held_of older) in
+    omega arith
+
+-- originals count nothing
+volume_of-originals : (parts : List (List Literal)) → volume_of (originals_of parts) ≡ 0
+volume_of-originals [] = refl
+volume_of-originals (lits ∷ older) = volume_of-originals older
+
+pub volume_of-append : (rows : List HeldClause) (parts : List (List Literal)) → volume_of (rows ++ originals_of parts) ≡ volume_of rows
+volume_of-append [] parts = volume_of-originals parts
+volume_of-append (c ∷ older) parts =
+    let rest = volume_of-append older parts in
+    let one = volume_of-cons c older in
+    let all = volume_of-cons c (older ++ originals_of parts) in
+    omega arith

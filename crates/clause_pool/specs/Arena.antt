@@ -1,47 +1,28 @@
--- Clauses as slots over one arena of literals.
-use Rattle.std.specs.Prelude.{◌≡◌, ℕ, ◌≤◌, ⊤, IsTrue, Bool, ◌&&◌, List, [], ◌∷◌, length, Option, Some, None, slice_range, find, if◌then◌else◌}
-use Rattle.std.specs.List.{AllByRecursion}
+-- Parts of one arena of literals, the newest first.
+use Rattle.std.specs.Prelude.{◌≡◌, ℕ, ◌≤◌, ◌==◌, ⊤, List, [], ◌∷◌, length, Option, Some, None, slice_range, if◌then◌else◌}
 use Rattle.lit_base.specs.Literal.{Literal}
-use Rattle.lit_base.specs.Named.{same_name}
-use Rattle.lit_base.specs.Held.{HeldClause, with_clause}
-use Rattle.lit_base.specs.declared.name.Name.{Name}
-use Rattle.clause_pool.specs.declared.slot.Slot.{Slot}
 
--- the clause of a slot
-abbrev pub clause_in : List Literal → Slot → HeldClause
-clause_in literals s = record { name = s.name; lits = slice_range literals s.from s.to; uses = s.uses }
+-- where the newest of these parts ends; the oldest begins at 0
+abbrev pub end_of : List ℕ → ℕ
+end_of [] = 0
+end_of (e ∷ older) = e
 
--- a slot with its uses counted anew
-abbrev pub without_count : Slot → Slot
-without_count s = record s { uses = 0 }
+-- the parts of an arena that end here, each of which begins where the older one ends
+abbrev pub parts_of : List Literal → List ℕ → List (List Literal)
+parts_of literals [] = []
+parts_of literals (e ∷ older) = slice_range literals (end_of older) e ∷ parts_of literals older
 
--- the clauses with that of one slot more; the slot of a dropped clause is passed over
-abbrev pub with_slot : List Literal → Slot → List HeldClause → List HeldClause
-with_slot literals s held = if s.is_live then with_clause (clause_in literals s) held else held
+-- no part ends before it begins
+abbrev pub AreEnds : List ℕ → Type 0
+AreEnds [] = ⊤
+AreEnds (e ∷ older) = (end_of older ≤ e) × AreEnds older
 
--- the clauses of the slots, the newest slot first
-abbrev pub held_of : List Literal → List Slot → List HeldClause
-held_of literals [] = []
-held_of literals (s ∷ older) = with_slot literals s (held_of literals older)
+-- the parts fill the arena
+pub record IsArena (literals : List Literal) (ends : List ℕ) : Type 0 where
+  pub ordered : AreEnds ends
+  pub full : end_of ends ≡ length literals
 
--- whether a slot holds the clause with this name
-abbrev pub is_slot_of : Name → Slot → Bool
-is_slot_of name s = s.is_live && same_name s.name name
-
--- the slot of the clause with this name
-abbrev pub slot_at : List Slot → Name → Option Slot
-slot_at slots name = find (is_slot_of name) slots
-
--- the place of the slot of the clause with this name, counted from the oldest slot
-abbrev pub place_at : List Slot → Name → Option ℕ
-place_at [] name = None
-place_at (s ∷ older) name = if is_slot_of name s then Some (length older) else place_at older name
-
--- no two live slots have the same name
-abbrev pub AreApart : List Slot → Type 0
-AreApart [] = ⊤
-AreApart (s ∷ older) = (IsTrue s.is_live → place_at older s.name ≡ None) × AreApart older
-
--- the slots' literals stand in an arena of this length
-abbrev pub AreWithin : ℕ → List Slot → Type 0
-AreWithin end slots = AllByRecursion (λ s. (s.from ≤ s.to) × (s.to ≤ end)) slots
+-- what stands at a place, counted from the oldest
+abbrev pub at_place : {X : Type 0} → List X → ℕ → Option X
+at_place [] place = None
+at_place (x ∷ older) place = if place == length older then Some x else at_place older place

@@ -1,4 +1,6 @@
 pub mod Uses
 pub mod Rising
 pub mod Arena
-pub mod Places
+pub mod Slots
+pub mod Links
+pub mod Pooled

@@ -5,9 +5,12 @@ pub use pool::Pool;
 pub use steps::Steps;
 
 mod arena;
-mod index;
+mod chains;
+mod originals;
+mod packing;
 mod pool;
 mod slot;
 mod steps;
+mod table;
 #[cfg(test)]
 mod tests;

@@ -37,7 +37,24 @@ fn has<L: Ledger>(
     numbers: &[i32],
 ) -> bool {
     assert!(rt; pool.held(name));
-    let lits = pool.lits(name, steps);
+    are(pool.lits(name, steps), numbers)
+}
+
+/// The same, by a believed place, which counts no use.
+fn has_near<L: Ledger>(
+    rt: &impl Abort,
+    pool: &Pool,
+    name: Name,
+    place: &mut u32,
+    steps: &mut Steps<L>,
+    numbers: &[i32],
+) -> bool {
+    assert!(rt; pool.held(name));
+    are(pool.lits_near(name, place, steps), numbers) && pool.uses_near(name, place) == 0
+}
+
+/// Whether these are the literals of these DIMACS numbers.
+fn are(lits: &[Lit], numbers: &[i32]) -> bool {
     lits.len() == numbers.len()
         && lits
             .iter()
@@ -54,23 +71,16 @@ fn uses(rt: &impl Abort, pool: &Pool, name: Name) -> u64 {
 /// Counts a use of a clause.
 fn count_use(rt: &impl Abort, pool: &mut Pool, name: Name) {
     assert!(rt; pool.held(name));
-    let uses = pool.uses(name);
+    let mut place = 3;
+    let uses = pool.uses_near(name, &mut place);
     assert!(rt; uses < 100);
-    pool.count_use(name);
+    pool.count_use_near(name, &mut place);
 }
 
 /// Drops one lemma.
 fn drop_one(rt: &impl Abort, pool: &mut Pool, name: Name) {
     assert!(rt; pool.held(name) && name.period != 0);
     pool.drop_names(&[name]);
-}
-
-fn name(period: u32, core: u32, index: u32) -> Name {
-    Name {
-        period,
-        core,
-        index,
-    }
 }
 
 /// Clauses are added, read, counted, dropped and added again.
@@ -82,11 +92,13 @@ fn read_and_dropped<L: Ledger, R: Abort>(rt: &R, alloc: Global, blank: Blank) ->
     let mut pool = Pool::new(alloc);
     let mut steps = Steps::<L>::new(blank);
     let clauses = [
-        (name(1, 2, 0), [1, -2].as_slice()),
-        (name(0, 0, 7), &[-3]),
-        (name(1, 0, 9), &[]),
-        (name(0, 0, 0), &[4, 5, -1_000_000]),
-        (name(2, 31, u32::MAX), &[2, 1]),
+        (Name::original(0), [1, -2].as_slice()),
+        (Name::original(1), &[]),
+        (Name::lemma(1, 2, 0), &[1, -2]),
+        (Name::original(7), &[-3]),
+        (Name::lemma(1, 0, 9), &[]),
+        (Name::original(2), &[4, 5, -1_000_000]),
+        (Name::lemma(u32::MAX, 31, u32::MAX), &[2, 1]),
     ];
     for (name, numbers) in clauses {
         add(rt, alloc, &mut pool, name, numbers)?;
@@ -94,23 +106,43 @@ fn read_and_dropped<L: Ledger, R: Abort>(rt: &R, alloc: Global, blank: Blank) ->
     for (name, numbers) in clauses {
         assert!(rt; has(rt, &pool, name, &mut steps, numbers) && uses(rt, &pool, name) == 0);
     }
+    for other in [
+        Name::original(3),
+        Name::lemma(0, 1, 0),
+        Name::lemma(1, 2, 1),
+    ] {
+        assert!(rt; !pool.held(other));
+    }
     assert_eq!(rt; pool.volume(), 3);
-    for counted in [name(1, 0, 9), name(0, 0, 0), name(1, 0, 9), name(1, 2, 0)] {
+    for counted in [
+        Name::lemma(1, 0, 9),
+        Name::original(0),
+        Name::original(7),
+        Name::lemma(1, 0, 9),
+        Name::lemma(1, 2, 0),
+    ] {
         count_use(rt, &mut pool, counted);
     }
-    for (counted, times) in [(name(1, 0, 9), 2), (name(0, 0, 0), 0), (name(1, 2, 0), 1)] {
+    for (counted, times) in [
+        (Name::lemma(1, 0, 9), 2),
+        (Name::original(0), 0),
+        (Name::original(7), 0),
+        (Name::lemma(1, 2, 0), 1),
+    ] {
         assert_eq!(rt; uses(rt, &pool, counted), times);
     }
-    drop_one(rt, &mut pool, name(1, 2, 0));
-    assert!(rt; !pool.held(name(1, 2, 0)) && pool.volume() == 2);
+    drop_one(rt, &mut pool, Name::lemma(1, 2, 0));
+    assert!(rt; !pool.held(Name::lemma(1, 2, 0)) && pool.volume() == 2);
+    assert_eq!(rt; uses(rt, &pool, Name::lemma(1, 0, 9)), 2);
     pool.clear_uses();
-    assert_eq!(rt; uses(rt, &pool, name(1, 0, 9)), 0);
-    add(rt, alloc, &mut pool, name(1, 2, 0), &[6])?;
-    assert!(rt; has(rt, &pool, name(1, 2, 0), &mut steps, &[6]) && pool.volume() == 3);
+    assert_eq!(rt; uses(rt, &pool, Name::lemma(1, 0, 9)), 0);
+    add(rt, alloc, &mut pool, Name::lemma(1, 2, 0), &[6])?;
+    assert!(rt; has(rt, &pool, Name::lemma(1, 2, 0), &mut steps, &[6]) && pool.volume() == 3);
     Ok(())
 }
 
-/// Most clauses of a pool are dropped, so that it is packed, and the others stay.
+/// Many lemmas are added and most dropped, so that the chains grow and the slots are packed; the others stay where they
+/// are sought, by whatever place they are believed at.
 fn packed<L: Ledger, R: Abort>(rt: &R, alloc: Global, blank: Blank) -> Result<(), Fail>
     requires name { blank.name ≡ L.name }
     requires parts { blank.parts ≡ L.parts }
@@ -119,31 +151,24 @@ fn packed<L: Ledger, R: Abort>(rt: &R, alloc: Global, blank: Blank) -> Result<()
     let mut pool = Pool::new(alloc);
     let mut steps = Steps::<L>::new(blank);
     for index in 0..2000 {
-        add(
-            rt,
-            alloc,
-            &mut pool,
-            name(1, 0, index),
-            &[index as i32 + 1, -7],
-        )?;
+        let name = Name::lemma(1 + index % 3, 0, index);
+        add(rt, alloc, &mut pool, name, &[index as i32 + 1, -7])?;
         if index % 10 != 0 {
-            drop_one(rt, &mut pool, name(1, 0, index));
+            drop_one(rt, &mut pool, name);
         }
     }
     assert_eq!(rt; pool.volume(), 200);
+    let mut place = 0;
     for index in 0..2000 {
-        let kept = pool.held(name(1, 0, index));
+        let name = Name::lemma(1 + index % 3, 0, index);
+        let kept = pool.held(name);
         assert_eq!(rt; kept, index % 10 == 0);
-        assert!(rt;
-            !kept
-                || has(
-                    rt,
-                    &pool,
-                    name(1, 0, index),
-                    &mut steps,
-                    &[index as i32 + 1, -7]
-                )
-        );
+        if kept {
+            let numbers = [index as i32 + 1, -7];
+            assert!(rt; has(rt, &pool, name, &mut steps, &numbers));
+            assert!(rt; has_near(rt, &pool, name, &mut place, &mut steps, &numbers));
+            assert!(rt; has_near(rt, &pool, name, &mut place, &mut steps, &numbers));
+        }
     }
     Ok(())
 }

@@ -1,17 +1,23 @@
-use Rattle.std.proofs.Common.{sym, arith}
-use Rattle.clause_pool.proofs.DroppedNames.{without_names-none, held_still, without_names-next}
+use Rattle.std.proofs.Common.{◌++◌, not, ap, sym, ◌∙◌, subst}
+use Rattle.lit_base.specs.Held.{is_among, without_names}
+use Rattle.clause_pool.specs.Pooled.{held_of, originals_of, IsPool}
+use Rattle.clause_pool.proofs.Fronts.{apart_left}
+use Rattle.clause_pool.proofs.Pooling.{without_rows, held_of-filter, pool_dropped}
 use Rattle.clause_pool.proofs.pool.Pool.drop_names.Goals as goal
 
--- at first nothing is dropped
-pub loop-name-init : goal.loop-name-init
-loop-name-init c = sym (without_names-none c.args.self.now)
+-- no name stands twice in the table
+pub drop_names-requires : goal.drop_names-requires
+drop_names-requires c = apart_left c.self.inside.table (originals_of c.self.inside.originals) c.self.invariant.apart
 
--- each name is that of a clause that is still held
-pub drop_name-requires-clause-held : goal.drop_name-requires-clause-held
-drop_name-requires-clause-held c =
-    held_still c.args.names.now c.loop-name.name-index _ c.args.self.now c.loop-name.self c.requires.distinct (omega arith) c.requires.held c.loop-name.invariant
+-- originals are kept
+pub invariant_of-self : goal.invariant_of-self
+invariant_of-self c =
+    let rows = c.self.inside.table ++ originals_of c.self.inside.originals in
+    let table = ap (λ left. left ++ originals_of c.self.inside.originals) c.drop_names.ensures ∙ without_rows c.args.names.now c.self.inside.table c.self.inside.originals c.requires.lemmas in
+    subst IsPool (sym table) (pool_dropped c.args.names.now rows c.self.invariant)
 
--- one clause more is dropped
-pub loop-name-preserved : goal.loop-name-preserved
-loop-name-preserved c =
-    without_names-next c.args.names.now c.loop-name.name-index _ c.args.self.now c.loop-name.self c.drop_name.new.self (omega arith) c.loop-name.invariant c.drop_name.ensures
+pub returns : goal.returns
+returns c =
+    let rows = c.self.inside.table ++ originals_of c.self.inside.originals in
+    let table = ap (λ left. left ++ originals_of c.self.inside.originals) c.drop_names.ensures ∙ without_rows c.args.names.now c.self.inside.table c.self.inside.originals c.requires.lemmas in
+    ap held_of table ∙ (held_of-filter (λ d. not (is_among c.args.names.now d.name)) rows c.self.invariant.apart ∙ ap (without_names c.args.names.now) c.self.view_is)

@@ -1,25 +1,28 @@
-use Rattle.std.proofs.Common.{◌∙◌, ap, sym, subst, reverse}
+use Rattle.std.proofs.Common.{◌≡◌, ◌++◌, true, false, length, ap, sym, ◌∙◌, subst}
 use Rattle.std.specs.Prelude.{is_some}
-use Rattle.lit_base.specs.Named.{lits_at}
-use Rattle.lit_base.specs.Held.{clauses_of}
-use Rattle.clause_pool.specs.Rising.{IsOrdered, HaveDistinctLits}
+use Rattle.clause_pool.specs.Pooled.{originals_of, is_front}
+use Rattle.clause_pool.specs.Rising.{IsOrdered}
 use Rattle.clause_pool.proofs.Order.{ordered-held_of}
-use Rattle.clause_pool.proofs.SlotAt.{is_some-lits_at}
+use Rattle.clause_pool.proofs.Lookup.{behind_held, front_held}
 use Rattle.clause_pool.proofs.pool.Pool.held.Goals as goal
 
--- a clause is held where its name has a place
-pub returns-clause-value : goal.returns-clause-value
-returns-clause-value c =
-    let inside = c.self.inside in
+-- a first original is held
+pub returns-then-is_front-clause-value : goal.returns-then-is_front-clause-value
+returns-then-is_front-clause-value c =
+    let front : is_front (length c.self.inside.originals) c.args.name ≡ true = ap (λ count. is_front count c.args.name) (sym c.len.ensures) ∙ (sym c.is_front.ensures ∙ c.if-is_front.true) in
+    c.if-is_front.true ∙ front_held c.self.inside.table c.self.inside.originals c.args.self.now c.args.name (record { apart = c.self.invariant.apart; is = c.self.view_is }) front
+
+-- any other clause is held where its name has a place
+pub returns-else-is_front-clause-value : goal.returns-else-is_front-clause-value
+returns-else-is_front-clause-value c =
+    let behind : is_front (length c.self.inside.originals) c.args.name ≡ false = ap (λ count. is_front count c.args.name) (sym c.len.ensures) ∙ (sym c.is_front.ensures ∙ c.if-is_front.false) in
     c.is_some.ensures
-    ∙ (ap is_some (c.get.ensures ∙ c.self.invariant.found c.args.name)
-    ∙ (sym (is_some-lits_at inside.literals.items (reverse inside.slots.items) c.args.name c.self.invariant.apart)
-    ∙ ap (λ held. is_some (lits_at (clauses_of held) c.args.name)) c.self.view_is))
+    ∙ (ap is_some c.place_of.ensures
+    ∙ sym (behind_held c.self.inside.table c.self.inside.originals c.args.self.now c.args.name (record { apart = c.self.invariant.apart; is = c.self.view_is }) behind))
 
--- the clauses of the slots stand in order
-pub returns-clause-ordered : goal.returns-clause-ordered
-returns-clause-ordered c = subst IsOrdered c.self.view_is (ordered-held_of c.self.inside.literals.items (reverse c.self.inside.slots.items) c.self.invariant.apart)
+-- the clauses stand in order
+pub returns-then-is_front-clause-ordered : goal.returns-then-is_front-clause-ordered
+returns-then-is_front-clause-ordered c = subst IsOrdered c.self.view_is (ordered-held_of (c.self.inside.table ++ originals_of c.self.inside.originals) c.self.invariant.apart)
 
--- the literals of each are distinct
-pub returns-clause-distinct : goal.returns-clause-distinct
-returns-clause-distinct c = subst (λ held. HaveDistinctLits (clauses_of held)) c.self.view_is c.self.invariant.distinct
+pub returns-else-is_front-clause-ordered : goal.returns-else-is_front-clause-ordered
+returns-else-is_front-clause-ordered c = subst IsOrdered c.self.view_is (ordered-held_of (c.self.inside.table ++ originals_of c.self.inside.originals) c.self.invariant.apart)

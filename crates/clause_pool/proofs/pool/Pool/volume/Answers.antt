@@ -1,13 +1,17 @@
-use Rattle.std.proofs.Common.{subst, reverse}
-use Rattle.lit_base.specs.Held.{clauses_of}
-use Rattle.clause_pool.specs.Rising.{IsOrdered, HaveDistinctLits}
+use Rattle.std.proofs.Common.{◌++◌, ap, sym, ◌∙◌, subst}
+use Rattle.lit_base.specs.Held.{volume_of}
+use Rattle.clause_pool.specs.Pooled.{originals_of}
+use Rattle.clause_pool.specs.Rising.{IsOrdered}
 use Rattle.clause_pool.proofs.Order.{ordered-held_of}
+use Rattle.clause_pool.proofs.Volume.{volume_of-held_of, volume_of-append}
 use Rattle.clause_pool.proofs.pool.Pool.volume.Goals as goal
 
--- the clauses of the slots stand in order
-pub returns-clause-ordered : goal.returns-clause-ordered
-returns-clause-ordered c = subst IsOrdered c.self.view_is (ordered-held_of c.self.inside.literals.items (reverse c.self.inside.slots.items) c.self.invariant.apart)
+-- originals count nothing
+pub returns-clause-value : goal.returns-clause-value
+returns-clause-value c =
+    let inside = c.self.inside in
+    c.volume.ensures ∙ (sym (volume_of-append inside.table inside.originals) ∙ (sym (volume_of-held_of (inside.table ++ originals_of inside.originals)) ∙ ap volume_of c.self.view_is))
 
--- the literals of each are distinct
-pub returns-clause-distinct : goal.returns-clause-distinct
-returns-clause-distinct c = subst (λ held. HaveDistinctLits (clauses_of held)) c.self.view_is c.self.invariant.distinct
+-- the clauses stand in order
+pub returns-clause-ordered : goal.returns-clause-ordered
+returns-clause-ordered c = subst IsOrdered c.self.view_is (ordered-held_of (c.self.inside.table ++ originals_of c.self.inside.originals) c.self.invariant.apart)

@@ -1,7 +1,0 @@
-use Rattle.std.proofs.Common.{◌≡◌, ◌++◌, map, take, drop}
-use Rattle.clause_pool.specs.Arena.{without_count}
-use Rattle.clause_pool.proofs.arena.clear_all_uses.Given as goal
-
--- the slots so far have no uses, and the others are as they were
-abbrev pub invariant-loop-slot : goal.invariant-loop-slot
-invariant-loop-slot l = l.slots ≡ map without_count (take l.slot-index l.initial.slots) ++ drop l.slot-index l.initial.slots

@@ -1,0 +1,80 @@
+ghost use Rattle.std.specs.Prelude.{◌≡◌, ◌<◌, ◌≤◌, [], ◌∷◌, length, reverse, take, Some, OnOk, OnErr};
+ghost use Rattle.clause_pool.specs.Arena.{at_place, end_of};
+
+use crate::arena::part;
+use lit_base::{Lit, NoMemory};
+use std::alloc::Global;
+use std::marker::Model;
+
+/// Clauses that are found by their index, seen by contracts as the list of their literals, the newest first.
+///
+/// A clause takes the 8 bytes of its end beside its literals.
+#[derive(Debug, Drop)]
+pub(crate) struct Originals {
+    literals: Vec<Lit>,
+    ends: Vec<usize>,
+}
+
+impl Model for Originals {
+    ghost use Rattle.std.specs.Prelude.{List, reverse};
+    ghost use Rattle.lit_base.specs.Literal.{Literal};
+
+    ghost Value = { List (List Literal) };
+
+    ghost use Rattle.clause_pool.specs.Arena.{parts_of, IsArena};
+
+    ghost view = { λ o. parts_of o.literals.items (reverse o.ends.items) };
+
+    ghost invariant = { λ o. IsArena o.literals.items (reverse o.ends.items) };
+}
+
+impl Originals {
+    /// No clauses; takes no memory.
+    pub(crate) fn new(alloc: Global) -> Originals
+        ensures { result ≡ [] }
+    {
+        Originals {
+            literals: Vec::new(alloc),
+            ends: Vec::new(alloc),
+        }
+    }
+
+    /// The number of clauses.
+    pub(crate) fn len(&self) -> usize
+        ensures { result ≡ length self.now }
+    {
+        let _ = &self.literals;
+        self.ends.len()
+    }
+
+    /// Adds a clause. After `NoMemory` nothing changed.
+    pub(crate) fn push(&mut self, lits: &[Lit]) -> Result<(), NoMemory>
+        ensures ok { OnOk result (self.new ≡ lits.now ∷ self.old) }
+        ensures err { OnErr result (self.new ≡ self.old) }
+    {
+        self.ends.reserve(1)?;
+        self.literals.extend_from_slice(lits)?;
+        self.ends.push_reserved(self.literals.len());
+        Ok(())
+    }
+
+    /// The literals of the clause with this index.
+    pub(crate) fn lits(&self, index: usize) -> &[Lit]
+        requires { index < length self.now }
+        ensures { at_place self.now index ≡ Some result.now }
+    {
+        part(
+            &self.literals,
+            start_of(&self.ends, index),
+            self.ends[index],
+        )
+    }
+}
+
+/// Where a part of the arena begins: where the one before it ends.
+fn start_of(ends: &[usize], index: usize) -> usize
+    requires { index ≤ length ends.now }
+    ensures { result ≡ end_of (reverse (take index ends.now)) }
+{
+    if index == 0 { 0 } else { ends[index - 1] }
+}
