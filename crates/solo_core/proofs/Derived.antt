@@ -1,12 +1,12 @@
 -- Lemmas that are derived, and their names.
 use Rattle.std.proofs.Common.{◌≡◌, ℕ, ◌+◌, ◌<◌, Bool, true, false, List, [], ◌∷◌, ◌++◌, length, append_assoc, append-nil, All, refl, ap, sym, ◌∙◌, subst, arith}
 use Rattle.std.specs.Prelude.{Option, Some, None, IsSome, option_map, find}
-use Rattle.std.specs.List.{AllByRecursion}
+use Rattle.std.specs.List.{AllByRecursion, IsDistinct}
 use Rattle.std.specs.Option.{option_or}
 use Rattle.std.proofs.lemmas.Bool.{cond-false, false_from_ne_true}
 use Rattle.std.proofs.lemmas.List.Folds.{find-append}
 use Rattle.std.proofs.lemmas.Option.{none-some}
-use Rattle.lit_base.specs.Literal.{Literal, IsWithin}
+use Rattle.lit_base.specs.Literal.{Literal, IsWithin, same}
 use Rattle.lit_base.specs.Rounds.{NamedClause}
 use Rattle.lit_base.specs.Named.{same_name, lits_at}
 use Rattle.lit_base.specs.Walk.{FindsMore}
@@ -14,7 +14,7 @@ use Rattle.lit_base.specs.declared.name.Name.{Name}
 use Rattle.lit_base.proofs.WalkMore.{judgement_same_names}
 use Rattle.solo_core.specs.declared.lemma.Lemma.{Lemma}
 use Rattle.solo_core.specs.State.{lemma_name, lemma_clause, lemma_clauses}
-use Rattle.solo_core.specs.Soundness.{IsDerived, AreDerived, AreNamed, HasLiterals, AreLemmasWithin, NoneFrom}
+use Rattle.solo_core.specs.Soundness.{IsDerived, AreDerived, AreNamed, HasLiterals, AreLemmasDistinct, AreLemmasWithin, NoneFrom}
 use Rattle.lit_base.proofs.HeldClauses.{same_name-true, lits_at-cons}
 
 lits_of_either : (o p : Option NamedClause) → option_map (λ c. c.lits) (option_or o p) ≡ option_or (option_map (λ c. c.lits) o) (option_map (λ c. c.lits) p)
@@ -76,7 +76,12 @@ pub nonempty_one_more : (lemmas : List Lemma) (lemma : Lemma) → AllByRecursion
 nonempty_one_more [] lemma all one = (one, tt)
 nonempty_one_more (first ∷ later) lemma all one = (all.0, nonempty_one_more later lemma all.1 one)
 
--- and the literals of all are within the variables
+-- and the literals of each are distinct
+pub distinct_one_more : (lemmas : List Lemma) (lemma : Lemma) → AreLemmasDistinct lemmas → IsDistinct same lemma.lits → AreLemmasDistinct (lemmas ++ lemma ∷ [])
+distinct_one_more [] lemma all one = (one, tt)
+distinct_one_more (first ∷ later) lemma all one = (all.0, distinct_one_more later lemma all.1 one)
+
+-- and within the variables
 pub within_one_more : (variables : ℕ) (lemmas : List Lemma) (lemma : Lemma) → AreLemmasWithin variables lemmas → All (IsWithin variables) lemma.lits →
     AreLemmasWithin variables (lemmas ++ lemma ∷ [])
 within_one_more variables [] lemma all one = (one, tt)

@@ -48,6 +48,7 @@ first_sound cnf settings core formula =
         named = tt;
         derived = tt;
         none_empty = tt;
+        lemmas_distinct = tt;
         lemmas_within = tt;
       };
     }

@@ -1,11 +1,14 @@
 -- What the search of a core keeps, from one call of the core to the next.
-use Rattle.std.proofs.Common.{◌≡◌, ℕ, ◌≤◌, ◌<◌, ◌++◌, ap, sym, ◌∙◌, subst, arith, ◌⊎◌, inl, inr}
+use Rattle.std.proofs.Common.{◌≡◌, ℕ, ◌≤◌, ◌<◌, ◌++◌, ap, ◌∙◌, subst, arith, ◌⊎◌, inl, inr}
 use Rattle.lit_base.specs.Trail.{level_now}
 use Rattle.solo_core.specs.State.{CoreFrame, CoreState, lemma_clauses, SearchState}
 use Rattle.solo_core.specs.Stretch.{stretch}
 use Rattle.solo_core.specs.Laws.{EndsByRule}
-use Rattle.solo_core.specs.Searching.{IsJoined, search_at}
-use Rattle.solo_core.specs.Calls.{IsOpen, IsSoundNext, GoesOn, IsEnded}
+use Rattle.solo_core.specs.Searching.{IsJoined, IsSearchAt}
+use Rattle.solo_core.specs.Period.{in_next_period, NoneOfOthers}
+use Rattle.solo_core.specs.Soundness.{IsSound}
+use Rattle.solo_core.proofs.Joined.{at_search}
+use Rattle.solo_core.specs.Calls.{IsOpen, GoesOn, IsEnded}
 use Rattle.solo_core.specs.declared.sheet.End.{End}
 use Rattle.solo_core.specs.declared.sheet.End.TheVariants.{Quota, Sat, Unsat, Spent}
 use Rattle.solo_core.proofs.EndRules.{ends_by_rule, spent_stays}
@@ -28,21 +31,22 @@ stretch_root frame quota state root limit goes = by_limit (let split : (state.co
     by_limit (inr left) = ruled_root frame quota state (stretch frame quota state).state (stretch frame quota state).ended (ends_by_rule frame quota state left) goes
 
 -- what a core keeps after the stretch of a period
-pub stretch_ended : (s after : SearchState) (quota : ℕ) (ended : End) → IsOpen s → after ≡ search_at s.frame (stretch s.frame quota s.state).state →
+pub stretch_ended : (s after : SearchState) (quota : ℕ) (ended : End) → IsOpen s → IsSearchAt s.frame (stretch s.frame quota s.state).state after →
     ended ≡ (stretch s.frame quota s.state).ended → IsJoined after → IsEnded after ended
 stretch_ended s after quota ended before is end joined =
     let t = stretch s.frame quota s.state in
     record {
       sound = λ other.
           let sound = stretch_sound before.base s.frame quota s.state before.sound (λ refutes. other (end ∙ refutes)) in
-          let next : IsSoundNext (search_at s.frame t.state) = record {
+          record {
             base = before.base ++ lemma_clauses t.state.lemmas;
-            sound = next_period_sound before.base s.frame t.state sound;
-            others = next_period_others before.base s.frame t.state sound;
-          } in
-          subst IsSoundNext (sym is) next;
+            sound = at_search (λ f k. IsSound (before.base ++ lemma_clauses t.state.lemmas) f (in_next_period k)) s.frame t.state after is
+                (next_period_sound before.base s.frame t.state sound);
+            others = at_search (λ f k. NoneOfOthers (before.base ++ lemma_clauses t.state.lemmas) k.period f.core) s.frame t.state after is
+                (next_period_others before.base s.frame t.state sound);
+          };
       root = λ goes.
-          subst (λ (x : SearchState). level_now x.state.trail ≡ 0) (sym is)
+          at_search (λ f k. level_now k.trail ≡ 0) s.frame t.state after is
           (stretch_root s.frame quota s.state before.root before.joined.limit (subst GoesOn end goes));
       joined = joined;
     }

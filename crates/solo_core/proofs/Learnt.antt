@@ -4,9 +4,10 @@ use Rattle.std.specs.Prelude.{None, IsSome}
 use Rattle.std.specs.List.{AllByRecursion, IsDistinct}
 use Rattle.lit_base.specs.Trail.{level_now}
 use Rattle.lit_base.specs.Named.{same_name, lits_at}
-use Rattle.lit_base.specs.Held.{HeldClause, with_clause, with_uses}
+use Rattle.lit_base.specs.Literal.{same}
+use Rattle.lit_base.specs.Held.{HeldClause, clauses_of, unused, with_clause, with_uses}
+use Rattle.round_prop.specs.Attached.{RoundsState, IsAttachedTo}
 use Rattle.lit_base.specs.Quiet.{IsAsserting}
-use Rattle.lit_base.specs.declared.name.Name.{Name}
 use Rattle.lit_base.specs.declared.lesson.Lesson.{Lesson}
 use Rattle.lit_base.proofs.LessonHints.{hints_found}
 use Rattle.lit_base.proofs.HintsDistinct.{hints_distinct}
@@ -14,10 +15,10 @@ use Rattle.trail_book.specs.TrailState.{TrailState, jumped}
 use Rattle.solo_core.specs.declared.lemma.Lemma.{Lemma}
 use Rattle.solo_core.specs.State.{lemma_name, lemma_clause, lemma_clauses, SearchState}
 use Rattle.solo_core.specs.Turn.{look_of, with_lemma}
-use Rattle.solo_core.specs.Searching.{IsAttachedTo, AreFewUses, IsJoined, IsReady, IsLesson}
+use Rattle.solo_core.specs.Searching.{AreFewUses, IsJoined, IsReady, IsLesson}
 use Rattle.solo_core.proofs.Derived.{next_is_fresh}
 use Rattle.solo_core.proofs.SoundClauses.{missed_before}
-use Rattle.solo_core.proofs.SoundLearnt.{conflict_asserting, held_lemma}
+use Rattle.solo_core.proofs.SoundLearnt.{conflict_asserting, lesson_few}
 use Rattle.solo_core.proofs.Joined.{length-saved_after}
 use Rattle.solo_core.proofs.CountedUses.{few_uses-more, few_uses-counted, few_uses-with}
 
@@ -48,6 +49,12 @@ hints_apart s lesson may =
     subst (λ (l : Lesson). IsDistinct same_name l.hints) (sym may.taught.lesson_is)
     (hints_distinct (look_of s.state) s.state.trail may.taught.conflict may.ready.sound.holds.fitting may.taught.stands)
 
+-- the literals are distinct
+pub lits_apart : (s : SearchState) (lesson : Lesson) → MayLearn s lesson → IsDistinct same lesson.lits
+lits_apart s lesson may =
+    subst (λ (l : Lesson). IsDistinct same l.lits) (sym may.taught.lesson_is)
+    (lesson_few may.ready.base s.frame s.state may.taught.conflict may.ready.sound).distinct
+
 -- the next name isn't held
 pub name_free : (s : SearchState) → IsReady s → look_of s.state (lemma_name s.state.period s.frame.core (length s.state.lemmas)) ≡ None
 name_free s ready =
@@ -58,26 +65,27 @@ name_free s ready =
 pub uses_fit : (s : SearchState) → IsReady s → s.state.conflicts < 2 ^ 32 → AreFewUses (2 ^ 32) s.state.clauses
 uses_fit s ready few = few_uses-more s.state.conflicts (2 ^ 32) s.state.clauses (omega arith) ready.joined.uses
 
--- the search after the jump back, with these names attached, these clauses held, and the lemma recorded
-abbrev pub after_lesson : SearchState → List Name → List HeldClause → TrailState → Lemma → SearchState
-after_lesson s names held trail lemma = record {
+-- the search after the jump back, with these clauses held, and the lemma recorded
+abbrev pub after_lesson : SearchState → RoundsState → List HeldClause → TrailState → Lemma → SearchState
+after_lesson s rounds held trail lemma = record {
   frame = s.frame;
   state = record (with_lemma lemma s.state) { clauses = held; trail = trail.entries; saved = trail.saved };
-  attached = names;
+  rounds = rounds;
 }
 
 -- its parts fit one another
-pub learnt_joined : (s : SearchState) (names : List Name) (held : List HeldClause) (trail : TrailState) (lemma : Lemma) (level : ℕ) → IsReady s →
-    trail ≡ jumped level (record { entries = s.state.trail; saved = s.state.saved }) → held ≡ with_uses lemma.hints (with_clause (held_lemma lemma) s.state.clauses) →
-    IsAttachedTo names held trail.entries → IsJoined (after_lesson s names held trail lemma)
-learnt_joined s names held trail lemma level ready trail_is held_is attached =
+pub learnt_joined : (s : SearchState) (rounds : RoundsState) (held : List HeldClause) (trail : TrailState) (lemma : Lemma) (level : ℕ) → IsReady s →
+    trail ≡ jumped level (record { entries = s.state.trail; saved = s.state.saved }) → held ≡ with_uses lemma.hints (with_clause (unused (lemma_clause lemma)) s.state.clauses) →
+    rounds.variables ≡ s.rounds.variables → IsAttachedTo rounds (clauses_of held) trail.entries → IsJoined (after_lesson s rounds held trail lemma)
+learnt_joined s rounds held trail lemma level ready trail_is held_is same attached =
     let joined = ready.joined in
     record {
       variables = ap (λ (t : TrailState). length t.saved) trail_is ∙ (length-saved_after level s.state.trail s.state.saved ∙ joined.variables);
+      rounds_variables = same ∙ joined.rounds_variables;
       few = joined.few;
       attached = attached;
       uses = subst (AreFewUses (s.state.conflicts + 1)) (sym held_is)
-          (few_uses-counted s.state.conflicts lemma.hints (with_clause (held_lemma lemma) s.state.clauses) (few_uses-with s.state.conflicts (lemma_clause lemma) s.state.clauses joined.uses));
+          (few_uses-counted s.state.conflicts lemma.hints (with_clause (unused (lemma_clause lemma)) s.state.clauses) (few_uses-with s.state.conflicts (lemma_clause lemma) s.state.clauses joined.uses));
       lemmas = omega (arith, length-append s.state.lemmas (lemma ∷ []), joined.lemmas);
       period_conflicts = omega (arith, joined.period_conflicts);
       limit = omega (arith, ready.left);

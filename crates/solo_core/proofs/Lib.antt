@@ -11,7 +11,6 @@ pub mod DerivedTrue
 pub mod LogChecks
 pub mod Values
 pub mod CountedUses
-pub mod Attaching
 pub mod FirstClauses
 pub mod FirstFree
 pub mod Joined

@@ -35,6 +35,7 @@ next_period_sound base frame state sound = record {
     named = tt;
     derived = tt;
     none_empty = tt;
+    lemmas_distinct = tt;
     lemmas_within = tt;
   };
 }

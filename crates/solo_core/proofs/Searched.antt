@@ -1,6 +1,6 @@
 -- A search that makes its turns one after the other.
-use Rattle.std.proofs.Common.{◌≡◌, ℕ, suc, ◌==◌, refl, ap, sym, ◌∙◌, subst, arith}
-use Rattle.std.specs.Prelude.{Option, Some, None, option_map}
+use Rattle.std.proofs.Common.{◌≡◌, ℕ, suc, ◌==◌, ◌<◌, refl, ap, sym, ◌∙◌, subst, arith}
+use Rattle.std.specs.Prelude.{Option, Some, None, option_map, Result, Ok, Err, OnOk}
 use Rattle.std.proofs.lemmas.Bool.{cond_both}
 use Rattle.lit_base.specs.Trail.{level_now, first_free}
 use Rattle.lit_base.specs.Fits.{IsConflict}
@@ -15,7 +15,9 @@ use Rattle.solo_core.specs.declared.turn.TurnEnd.{TurnEnd}
 use Rattle.solo_core.specs.declared.turn.TurnEnd.TheVariants.{Decided, Learnt, Refuted, Modelled}
 use Rattle.solo_core.specs.Changes.{after_propagation}
 use Rattle.solo_core.specs.Stretch.{after_turn, search_to_conflict}
-use Rattle.solo_core.specs.Searching.{IsJoined, IsReady, search_at}
+use Rattle.solo_core.specs.Searching.{IsJoined, IsReady, IsSearchAt}
+use Rattle.solo_core.specs.Soundness.{IsSound}
+use Rattle.solo_core.proofs.Joined.{at_search, of_search}
 use Rattle.solo_core.proofs.SoundSteps.{propagated_sound}
 use Rattle.solo_core.proofs.SoundStretch.{propagated_conflict, turn_sound}
 
@@ -25,20 +27,36 @@ conflict_found None name is = cc
 conflict_found (Some other) name is = cc
 
 -- a search is ready still after propagation
-pub propagated_ready : (s after : SearchState) → IsReady s → after ≡ record s { state = after_propagation s.frame s.state } → IsJoined after → IsReady after
-propagated_ready s after ready is joined = subst IsReady (sym is) (record {
+pub propagated_ready : (s after : SearchState) → IsReady s → IsSearchAt s.frame (after_propagation s.frame s.state) after → IsJoined after → IsReady after
+propagated_ready s after ready is joined = record {
   base = ready.base;
-  sound = propagated_sound ready.base s.frame s.state ready.sound;
-  joined = subst IsJoined is joined;
-  left = ready.left;
-})
+  sound = at_search (λ f k. IsSound ready.base f k) s.frame (after_propagation s.frame s.state) after is (propagated_sound ready.base s.frame s.state ready.sound);
+  joined = joined;
+  left = at_search (λ f k. k.conflicts < f.limit) s.frame (after_propagation s.frame s.state) after is ready.left;
+}
 
 -- the conflict that propagation finds is one on the trail
-pub conflict_stands : (s after : SearchState) (name : Name) → IsReady s → after ≡ record s { state = after_propagation s.frame s.state } → Conflict name ≡ found_of (propagated s.frame s.state).conflict →
-    IsConflict (look_of after.state) after.state.trail name
+pub conflict_stands : (s after : SearchState) (name : Name) → IsReady s → IsSearchAt s.frame (after_propagation s.frame s.state) after →
+    Conflict name ≡ found_of (propagated s.frame s.state).conflict → IsConflict (look_of after.state) after.state.trail name
 conflict_stands s after name ready is found =
-    subst (λ (t : SearchState). IsConflict (look_of t.state) t.state.trail name) (sym is)
+    at_search (λ f k. IsConflict (look_of k) k.trail name) s.frame (after_propagation s.frame s.state) after is
     (propagated_conflict ready.base s.frame s.state name ready.sound (conflict_found (propagated s.frame s.state).conflict name found))
+
+-- what the conflict teaches is what the turn comes to
+conflict_turned : (s found after : SearchState) (name : Name) → IsSearchAt s.frame (after_propagation s.frame s.state) found → Conflict name ≡ found_of (propagated s.frame s.state).conflict →
+    IsSearchAt found.frame (taught found.frame found.state (lesson_of (look_of found.state) found.state.trail name)).state after → IsSearchAt s.frame (turn s.frame s.state).state after
+conflict_turned s found after name is conflict taught_is =
+    let moved = after_propagation s.frame s.state in
+    subst (λ o. IsSearchAt s.frame (turn_by s.frame moved o).state after) (sym (conflict_found (propagated s.frame s.state).conflict name conflict))
+    (of_search (λ f k. IsSearchAt f (taught f k (lesson_of (look_of k) k.trail name)).state after) s.frame moved found is taught_is)
+
+-- the same of an attempt to learn from it
+pub conflict_turned-on_ok : {T E : Type 0} (r : Result T E) (s found after : SearchState) (name : Name) → IsSearchAt s.frame (after_propagation s.frame s.state) found →
+    Conflict name ≡ found_of (propagated s.frame s.state).conflict →
+    OnOk r (IsSearchAt found.frame (taught found.frame found.state (lesson_of (look_of found.state) found.state.trail name)).state after) →
+    OnOk r (IsSearchAt s.frame (turn s.frame s.state).state after)
+conflict_turned-on_ok (Ok x) s found after name is conflict taught_is = conflict_turned s found after name is conflict taught_is
+conflict_turned-on_ok (Err e) s found after name is conflict taught_is = tt
 
 -- a turn that decides has no conflict
 abbrev CountsNone : CoreState → Turned → Type 0
@@ -61,13 +79,14 @@ turn_counts : (frame : CoreFrame) (state : CoreState) → CountsNone state (turn
 turn_counts frame state = turn_by_counts frame (after_propagation frame state) (propagated frame state).conflict
 
 -- a search is ready still after a decision
-pub decided_ready : (s after : SearchState) → IsReady s → after ≡ search_at s.frame (turn s.frame s.state).state → IsJoined after → (turn s.frame s.state).came_to ≡ Decided → IsReady after
-decided_ready s after ready is joined end = subst IsReady (sym is) (record {
+pub decided_ready : (s after : SearchState) → IsReady s → IsSearchAt s.frame (turn s.frame s.state).state after → IsJoined after → (turn s.frame s.state).came_to ≡ Decided → IsReady after
+decided_ready s after ready is joined end = record {
   base = ready.base;
-  sound = turn_sound ready.base s.frame s.state ready.sound (λ other. let clash : Decided ≡ Refuted = sym end ∙ other in cc);
-  joined = subst IsJoined is joined;
-  left = omega (arith, turn_counts s.frame s.state end, ready.left);
-})
+  sound = at_search (λ f k. IsSound ready.base f k) s.frame (turn s.frame s.state).state after is
+      (turn_sound ready.base s.frame s.state ready.sound (λ other. let clash : Decided ≡ Refuted = sym end ∙ other in cc));
+  joined = joined;
+  left = at_search (λ f k. k.conflicts < f.limit) s.frame (turn s.frame s.state).state after is (omega (arith, turn_counts s.frame s.state end, ready.left));
+}
 
 -- what the turns so far leave of a search: it is ready, and the turns to come end where the whole search ends
 pub record IsSearching (frame : CoreFrame) (whole : Turned) (left : ℕ) (s : SearchState) : Type 0 where
@@ -81,12 +100,12 @@ unrolled : (frame : CoreFrame) (whole : Turned) (left less : ℕ) (s : SearchSta
 unrolled frame whole left less s is searching = ap (λ n. search_to_conflict n s.frame s.state) (sym is) ∙ searching.rest
 
 -- a turn that decides is followed by the others
-pub goes_on : (frame : CoreFrame) (whole : Turned) (left less : ℕ) (s after : SearchState) → left ≡ suc less → IsSearching frame whole left s → after ≡ search_at s.frame (turn s.frame s.state).state →
+pub goes_on : (frame : CoreFrame) (whole : Turned) (left less : ℕ) (s after : SearchState) → left ≡ suc less → IsSearching frame whole left s → IsSearchAt s.frame (turn s.frame s.state).state after →
     IsJoined after → Decided ≡ (turn s.frame s.state).came_to → IsSearching frame whole less after
 goes_on frame whole left less s after is searching turned joined end = record {
   ready = decided_ready s after searching.ready turned joined (sym end);
-  frame_is = ap (λ (t : SearchState). t.frame) turned ∙ searching.frame_is;
-  rest = subst (λ (t : SearchState). search_to_conflict less t.frame t.state ≡ whole) (sym turned)
+  frame_is = turned.0 ∙ searching.frame_is;
+  rest = at_search (λ f k. search_to_conflict less f k ≡ whole) s.frame (turn s.frame s.state).state after turned
       (ap (λ e. after_turn (search_to_conflict less s.frame) (turn s.frame s.state).state e) end ∙ unrolled frame whole left less s is searching);
 }
 
@@ -98,17 +117,17 @@ other_ends more state Modelled other = refl
 
 -- where a search ended
 pub record HasSearched (frame : CoreFrame) (whole : Turned) (after : SearchState) (e : TurnEnd) : Type 0 where
-  pub state : after ≡ search_at frame whole.state
+  pub at : IsSearchAt frame whole.state after
   pub end : e ≡ whole.came_to
 
 -- a turn that comes to no decision ends the search
 pub leaves : (frame : CoreFrame) (whole : Turned) (left less : ℕ) (s after : SearchState) (e : TurnEnd) → left ≡ suc less → IsSearching frame whole left s →
-    after ≡ search_at s.frame (turn s.frame s.state).state → e ≡ (turn s.frame s.state).came_to → (e ≡ Decided → ⊥) → HasSearched frame whole after e
+    IsSearchAt s.frame (turn s.frame s.state).state after → e ≡ (turn s.frame s.state).came_to → (e ≡ Decided → ⊥) → HasSearched frame whole after e
 leaves frame whole left less s after e is searching turned end other =
     let t = turn s.frame s.state in
     let ended : record t { came_to = e } ≡ whole =
     sym (other_ends (search_to_conflict less s.frame) t.state e other) ∙ (ap (λ d. after_turn (search_to_conflict less s.frame) t.state d) end ∙ unrolled frame whole left less s is searching) in
     record {
-      state = turned ∙ (ap (λ g. search_at g t.state) searching.frame_is ∙ ap (λ (w : Turned). search_at frame w.state) ended);
+      at = (turned.0 ∙ searching.frame_is, turned.1 ∙ ap (λ (w : Turned). w.state) ended);
       end = ap (λ (w : Turned). w.came_to) ended;
     }

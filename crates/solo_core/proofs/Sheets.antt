@@ -1,6 +1,6 @@
 -- What a sheet says of its stretch: the model that it has, and the conflicts that its mail counts.
-use Rattle.std.proofs.Common.{◌≡◌, ℕ, ◌+◌, Bool, List, length, refl, ap, ◌∙◌, sym, subst, arith}
-use Rattle.std.specs.Prelude.{◌↔◌, Some, None, IsSome}
+use Rattle.std.proofs.Common.{◌≡◌, ℕ, ◌+◌, Bool, List, length, refl, ap, subst, arith}
+use Rattle.std.specs.Prelude.{◌↔◌, Some, IsSome}
 use Rattle.std.proofs.lemmas.Option.{same_Some}
 use Rattle.lit_base.specs.Cnf.{Cnf}
 use Rattle.lit_base.specs.Truth.{Satisfies}

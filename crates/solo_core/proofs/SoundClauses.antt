@@ -127,6 +127,7 @@ added_sound base frame state c sound root within new before =
         derived = derived_from_more base (base ++ c ∷ []) state.lemmas (λ n lits is. found_in_front base (c ∷ []) n lits is)
             (lemmas_not_found (base ++ c ∷ []) state.period frame.core 0 state.lemmas fresh sound.derives.named) sound.derives.derived;
         none_empty = sound.derives.none_empty;
+        lemmas_distinct = sound.derives.lemmas_distinct;
         lemmas_within = sound.derives.lemmas_within;
       };
     }

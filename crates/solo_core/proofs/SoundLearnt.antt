@@ -1,10 +1,9 @@
 -- What a conflict leaves of a core: the lemma that it learns, or its refutation.
 use Rattle.std.proofs.Common.{◌≡◌, ℕ, zero, suc, ◌+◌, ◌≤◌, ◌<◌, Bool, true, false, cond, List, [], ◌∷◌, ◌++◌, length, append_assoc, All, refl, ap, sym, ◌∙◌, subst, arith}
 use Rattle.std.specs.Prelude.{Option, Some, None, option_map, find}
-use Rattle.std.specs.List.{AllByRecursion}
+use Rattle.std.specs.List.{AllByRecursion, IsDistinct}
 use Rattle.std.proofs.lemmas.Option.{same_Some}
-use Rattle.std.proofs.lemmas.List.Elements.{All-cons, All-nil}
-use Rattle.lit_base.specs.Literal.{Literal, IsWithin}
+use Rattle.lit_base.specs.Literal.{Literal, IsWithin, same}
 use Rattle.lit_base.specs.Cnf.{Cnf}
 use Rattle.lit_base.specs.Trail.{level_now}
 use Rattle.lit_base.specs.Backjump.{cut}
@@ -13,19 +12,19 @@ use Rattle.lit_base.specs.Named.{same_name, lits_at}
 use Rattle.lit_base.specs.Held.{HeldClause, clauses_of, with_clause, with_uses}
 use Rattle.lit_base.specs.Walk.{FindsMore}
 use Rattle.lit_base.specs.Fits.{FindsAll, IsFalsifiedBy, IsConflict}
-use Rattle.lit_base.specs.Quiet.{IsQuiet, IsOfLevelUpTo, HasTwoOfLevel, IsAsserting}
+use Rattle.lit_base.specs.Quiet.{IsQuiet, HasTwoOfLevel, IsAsserting}
 use Rattle.lit_base.specs.Analysis.{lesson_of}
 use Rattle.lit_base.specs.declared.trail.Entry.{Entry}
 use Rattle.lit_base.specs.declared.name.Name.{Name}
 use Rattle.lit_base.specs.declared.lesson.Lesson.{Lesson}
 use Rattle.lit_base.proofs.LessonSound.{lesson_follows}
 use Rattle.lit_base.proofs.LessonHints.{hints_found}
-use Rattle.lit_base.proofs.TrailWithin.{IsTrailWithin, stands_within}
+use Rattle.lit_base.proofs.Passed.{lesson_bounded}
 use Rattle.lit_base.proofs.Cuts.{level_now-cut-le, cut_cut}
 use Rattle.lit_base.proofs.TwoOfLevel.{has_two}
 use Rattle.lit_base.proofs.HeldClauses.{clauses_of-with_uses, all-with, All-with, finds_more-with, found-with, finds_all-more, fitting-more}
 use Rattle.lit_base.proofs.Asserting.{lesson_asserting}
-use Rattle.solo_core.proofs.Derived.{derived_by_more, derived_one_more, named_one_more, nonempty_one_more, within_one_more, next_is_fresh}
+use Rattle.solo_core.proofs.Derived.{derived_by_more, derived_one_more, named_one_more, nonempty_one_more, distinct_one_more, within_one_more, next_is_fresh}
 use Rattle.solo_core.proofs.SoundSteps.{jumped_sound, uses_sound}
 use Rattle.solo_core.proofs.SoundClauses.{missed_before, carried_with}
 use Rattle.solo_core.specs.declared.lemma.Lemma.{Lemma}
@@ -47,6 +46,7 @@ pub record IsNext (base : List NamedClause) (frame : CoreFrame) (state : CoreSta
   pub name : lemma.name ≡ lemma_name state.period frame.core (length state.lemmas)
   pub derived : IsDerived (look_of state) lemma
   pub literals : HasLiterals lemma
+  pub distinct : IsDistinct same lemma.lits
   pub within : All (IsWithin frame.variables) lemma.lits
   pub quiet : (level : ℕ) → level < level_now state.trail → IsQuiet (cut level state.trail) lemma.lits
 
@@ -84,6 +84,7 @@ next_held base frame state lemma sound next =
         named = named_one_more state.period frame.core 0 state.lemmas lemma sound.derives.named (next.name ∙ ap (λ place. lemma_name state.period frame.core place) (let e : length state.lemmas ≡ 0 + length state.lemmas = omega arith in e));
         derived = derived_one_more base state.lemmas lemma sound.derives.derived (derived_by_more (look_of state) (lits_at known) lemma sound.derives.carried next.derived);
         none_empty = nonempty_one_more state.lemmas lemma sound.derives.none_empty next.literals;
+        lemmas_distinct = distinct_one_more state.lemmas lemma sound.derives.lemmas_distinct next.distinct;
         lemmas_within = within_one_more frame.variables state.lemmas lemma sound.derives.lemmas_within next.within;
       };
     }
@@ -114,36 +115,37 @@ lesson_derived base frame state conflict sound is = record {
   follows = lesson_follows (look_of state) state.trail conflict sound.holds.fitting.distinct sound.holds.fitting.fits is;
 }
 
--- the literals of an asserting lesson are within the variables
-others_within : (n most : ℕ) (trail : List Entry) (lits : List Literal) → IsTrailWithin n trail → AllByRecursion (IsOfLevelUpTo trail most) lits → All (IsWithin n) lits
-others_within n most trail [] within all = All-nil (IsWithin n)
-others_within n most trail (l ∷ ls) within all =
-    All-cons (IsWithin n) l ls (stands_within n l.variable all.0.level trail within all.0.stands) (others_within n most trail ls within all.1)
+-- the literals of a lesson are distinct, and within the variables
+pub record IsOfFew (frame : CoreFrame) (lesson : Lesson) : Type 0 where
+  pub distinct : IsDistinct same lesson.lits
+  pub within : All (IsWithin frame.variables) lesson.lits
 
-lesson_within : (n : ℕ) (trail : List Entry) (lesson : Lesson) → IsTrailWithin n trail → IsAsserting trail lesson → All (IsWithin n) lesson.lits
-lesson_within n trail lesson within asserting =
-    subst (λ lits. All (IsWithin n) lits) (sym asserting.lits)
-    (All-cons (IsWithin n) asserting.first asserting.others (stands_within n asserting.first.variable (level_now trail) trail within asserting.first_level)
-    (others_within n lesson.back trail asserting.others within asserting.others_levels))
+pub lesson_few : (base : List NamedClause) (frame : CoreFrame) (state : CoreState) (conflict : Name) → IsSound base frame state → IsOfFew frame (lesson_of (look_of state) state.trail conflict)
+lesson_few base frame state conflict sound =
+    let bounded = lesson_bounded frame.variables (look_of state) state.trail conflict sound.holds.fitting sound.holds.trail_within in
+    record { distinct = bounded.distinct; within = bounded.within }
 
 -- after the jump back the lemma is the next
-lesson_next : (base : List NamedClause) (frame : CoreFrame) (state : CoreState) (lesson : Lesson) → IsSound base frame state → IsAsserting state.trail lesson → IsDerived (look_of state) (lemma_of frame state lesson) →
+lesson_next : (base : List NamedClause) (frame : CoreFrame) (state : CoreState) (lesson : Lesson) → IsSound base frame state → IsAsserting state.trail lesson → IsOfFew frame lesson →
+    IsDerived (look_of state) (lemma_of frame state lesson) →
     IsNext base frame (jumped lesson.back state) (lemma_of frame state lesson)
-lesson_next base frame state lesson sound asserting derived = record {
+lesson_next base frame state lesson sound asserting few derived = record {
   name = refl;
   derived = derived;
   literals = subst (λ lits. 1 ≤ length lits) (sym asserting.lits) (omega arith);
-  within = lesson_within frame.variables state.trail lesson sound.holds.trail_within asserting;
+  distinct = few.distinct;
+  within = few.within;
   quiet = λ level low.
       let below : level < lesson.back = omega (arith, low, level_now-cut-le lesson.back state.trail) in
       subst (λ t. IsQuiet t lesson.lits) (sym (cut_cut level lesson.back state.trail (omega (arith, below)))) (asserting.quiet_before level below);
 }
 
 -- an asserting lesson is learnt
-pub learnt_sound : (base : List NamedClause) (frame : CoreFrame) (state : CoreState) (lesson : Lesson) → IsSound base frame state → IsAsserting state.trail lesson → IsDerived (look_of state) (lemma_of frame state lesson) →
+pub learnt_sound : (base : List NamedClause) (frame : CoreFrame) (state : CoreState) (lesson : Lesson) → IsSound base frame state → IsAsserting state.trail lesson → IsOfFew frame lesson →
+    IsDerived (look_of state) (lemma_of frame state lesson) →
     IsSound base frame (learnt frame lesson state)
-learnt_sound base frame state lesson sound asserting derived =
-    next_sound base frame (jumped lesson.back state) (lemma_of frame state lesson) (jumped_sound base frame state lesson.back sound) (lesson_next base frame state lesson sound asserting derived)
+learnt_sound base frame state lesson sound asserting few derived =
+    next_sound base frame (jumped lesson.back state) (lemma_of frame state lesson) (jumped_sound base frame state lesson.back sound) (lesson_next base frame state lesson sound asserting few derived)
 
 pub learnt_holds : (cnf : Cnf) (base : List NamedClause) (frame : CoreFrame) (state : CoreState) (lesson : Lesson) → IsSound base frame state → HoldsFormula cnf state → HoldsFormula cnf (learnt frame lesson state)
 learnt_holds cnf base frame state lesson sound holds =

@@ -103,6 +103,7 @@ carried_sound base frame period before after lemmas derives carried = record {
   named = derives.named;
   derived = derives.derived;
   none_empty = derives.none_empty;
+  lemmas_distinct = derives.lemmas_distinct;
   lemmas_within = derives.lemmas_within;
 }
 

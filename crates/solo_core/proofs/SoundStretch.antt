@@ -1,9 +1,9 @@
 -- What a turn, a search and a stretch keep and leave.
-use Rattle.std.proofs.Common.{◌≡◌, ℕ, zero, suc, ◌==◌, ◌+◌, ◌<◌, Bool, true, false, cond, List, [], ◌∷◌, ◌++◌, All, refl, ap, sym, subst, arith}
+use Rattle.std.proofs.Common.{◌≡◌, ℕ, zero, suc, ◌==◌, ◌+◌, ◌<◌, Bool, true, false, cond, List, [], ◌∷◌, ◌++◌, All, refl, ap, subst, arith}
 use Rattle.std.specs.Prelude.{Option, Some, None, option_map, IsTrue, length}
 use Rattle.std.specs.List.{AllByRecursion}
 use Rattle.std.proofs.lemmas.Bool.{cond_both, eqb-true, eqb-false}
-use Rattle.std.proofs.lemmas.List.Elements.{All-head, All-nil, All-tail}
+use Rattle.std.proofs.lemmas.List.Elements.{All-head, All-tail}
 use Rattle.lit_base.specs.Literal.{Literal, IsWithin}
 use Rattle.lit_base.specs.Cnf.{Cnf}
 use Rattle.lit_base.specs.Truth.{is_clause_true}
@@ -21,16 +21,16 @@ use Rattle.lit_base.proofs.PropagationFits.{propagation_fits}
 use Rattle.lit_base.proofs.FixIsQuiet.{fix_quiet}
 use Rattle.lit_base.proofs.RootLesson.{root_lesson_empty}
 use Rattle.lit_base.proofs.FreeVariables.{first_free-some, first_free-none}
-use Rattle.solo_core.proofs.Derived.{derived_by_more, derived_one_more, named_one_more, within_one_more}
+use Rattle.solo_core.proofs.Derived.{derived_by_more, derived_one_more, named_one_more, distinct_one_more, within_one_more}
 use Rattle.solo_core.proofs.SoundSteps.{propagated_sound, decided_sound, jumped_sound}
-use Rattle.solo_core.proofs.SoundLearnt.{lesson_derived, learnt_sound, learnt_holds, conflict_two, conflict_asserting}
+use Rattle.solo_core.proofs.SoundLearnt.{lesson_few, lesson_derived, learnt_sound, learnt_holds, conflict_two, conflict_asserting}
 use Rattle.solo_core.specs.State.{CoreFrame, CoreState, lemma_name, lemma_clauses}
 use Rattle.solo_core.specs.Turn.{Turned, look_of, propagated, last_literal, lemma_of, learnt, refuted, taught, chosen, turn_by, turn}
 use Rattle.solo_core.specs.declared.turn.TurnEnd.{TurnEnd}
 use Rattle.solo_core.specs.declared.turn.TurnEnd.TheVariants.{Decided, Learnt, Refuted, Modelled}
 use Rattle.solo_core.specs.Stretch.{Stretched, after_turn, search_to_conflict, ended_at_root, after_search, search_to_quota, stretch}
 use Rattle.solo_core.specs.Changes.{after_propagation}
-use Rattle.solo_core.specs.Soundness.{AreDerived, AreNamed, AreLemmasWithin, IsSound, EndsEmpty, IsModelFound, HoldsFormula}
+use Rattle.solo_core.specs.Soundness.{AreDerived, AreNamed, AreLemmasDistinct, AreLemmasWithin, IsSound, EndsEmpty, IsModelFound, HoldsFormula}
 use Rattle.solo_core.specs.declared.sheet.End.{End}
 use Rattle.solo_core.specs.declared.sheet.End.TheVariants.{Quota, Sat, Unsat, Spent}
 
@@ -38,6 +38,7 @@ use Rattle.solo_core.specs.declared.sheet.End.TheVariants.{Quota, Sat, Unsat, Sp
 pub record IsRefuted (base : List NamedClause) (frame : CoreFrame) (state : CoreState) : Type 0 where
   pub derived : AreDerived base state.lemmas
   pub named : AreNamed state.period frame.core 0 state.lemmas
+  pub lemmas_distinct : AreLemmasDistinct state.lemmas
   pub lemmas_within : AreLemmasWithin frame.variables state.lemmas
   pub ends : EndsEmpty state.lemmas
 
@@ -91,13 +92,14 @@ refuted_sound : (base : List NamedClause) (frame : CoreFrame) (state : CoreState
 refuted_sound base frame state conflict sound is root =
     let lesson = lesson_of (look_of state) state.trail conflict in
     let lemma = lemma_of frame state lesson in
-    let empty : lesson.lits ≡ [] = root_lesson_empty (look_of state) state.trail conflict sound.holds.fitting.leveled root in
+    let few = lesson_few base frame state conflict sound in
     record {
       derived = derived_one_more base state.lemmas lemma sound.derives.derived
           (derived_by_more (look_of state) (lits_at (base ++ lemma_clauses state.lemmas)) lemma sound.derives.carried (lesson_derived base frame state conflict sound is));
       named = named_one_more state.period frame.core 0 state.lemmas lemma sound.derives.named (ap (λ place. lemma_name state.period frame.core place) (let e : length state.lemmas ≡ 0 + length state.lemmas = omega arith in e));
-      lemmas_within = within_one_more frame.variables state.lemmas lemma sound.derives.lemmas_within (subst (λ lits. All (IsWithin frame.variables) lits) (sym empty) (All-nil (IsWithin frame.variables)));
-      ends = record { earlier = state.lemmas; last = lemma; split = refl; empty = empty; none_before = sound.derives.none_empty };
+      lemmas_distinct = distinct_one_more state.lemmas lemma sound.derives.lemmas_distinct few.distinct;
+      lemmas_within = within_one_more frame.variables state.lemmas lemma sound.derives.lemmas_within few.within;
+      ends = record { earlier = state.lemmas; last = lemma; split = refl; empty = root_lesson_empty (look_of state) state.trail conflict sound.holds.fitting.leveled root; none_before = sound.derives.none_empty };
     }
 
 -- what a conflict leaves
@@ -109,7 +111,7 @@ taught_kept base frame state conflict sound is =
     (λ root. record { sound = refuted_sound base frame state conflict sound is (eqb-true (level_now state.trail) 0 root); formulas = λ cnf holds. holds })
     (λ above. record {
       sound = learnt_sound base frame state lesson sound (conflict_asserting base frame state conflict sound is (let high : level_now state.trail ≡ 0 → ⊥ = eqb-false (level_now state.trail) 0 above in omega (arith, high)))
-          (lesson_derived base frame state conflict sound is);
+          (lesson_few base frame state conflict sound) (lesson_derived base frame state conflict sound is);
       formulas = λ cnf holds. learnt_holds cnf base frame state lesson sound holds;
     })
 

@@ -16,7 +16,7 @@ use Rattle.solo_core.proofs.SoundLearnt.{found_of_all}
 use Rattle.solo_core.proofs.SoundStretch.{IsEndSound, stretch_kept}
 use Rattle.solo_core.specs.State.{CoreFrame, CoreState}
 use Rattle.solo_core.specs.Stretch.{stretch}
-use Rattle.solo_core.specs.Soundness.{AreDerived, AreNamed, AreLemmasWithin, IsSound, EndsEmpty, IsModelFound, HoldsFormula}
+use Rattle.solo_core.specs.Soundness.{AreDerived, AreNamed, AreLemmasDistinct, AreLemmasWithin, IsSound, EndsEmpty, IsModelFound, HoldsFormula}
 use Rattle.solo_core.specs.declared.sheet.End.{End}
 use Rattle.solo_core.specs.declared.sheet.End.TheVariants.{Quota, Sat, Unsat, Spent}
 
@@ -37,6 +37,12 @@ within_at base frame state Quota is = is.derives.lemmas_within
 within_at base frame state Spent is = is.derives.lemmas_within
 within_at base frame state Sat is = is.0.derives.lemmas_within
 within_at base frame state Unsat is = is.lemmas_within
+
+distinct_at : (base : List NamedClause) (frame : CoreFrame) (state : CoreState) (e : End) → IsEndSound base frame state e → AreLemmasDistinct state.lemmas
+distinct_at base frame state Quota is = is.derives.lemmas_distinct
+distinct_at base frame state Spent is = is.derives.lemmas_distinct
+distinct_at base frame state Sat is = is.0.derives.lemmas_distinct
+distinct_at base frame state Unsat is = is.lemmas_distinct
 
 empty_at : (base : List NamedClause) (frame : CoreFrame) (state : CoreState) (e : End) → IsEndSound base frame state e → e ≡ Unsat → EndsEmpty state.lemmas
 empty_at base frame state Quota is same = cc
@@ -67,7 +73,12 @@ stretch_named base frame quota state sound =
     let s = stretch frame quota state in
     subst (λ period. AreNamed period frame.core 0 s.state.lemmas) (conflicts_counted frame quota state).period (named_at base frame s.state s.ended (stretch_kept base frame quota state sound).sound)
 
--- their literals are within the variables
+-- the literals of each are distinct
+pub stretch_distinct : (base : List NamedClause) (frame : CoreFrame) (quota : ℕ) (state : CoreState) → IsSound base frame state → AreLemmasDistinct (stretch frame quota state).state.lemmas
+stretch_distinct base frame quota state sound =
+    let s = stretch frame quota state in distinct_at base frame s.state s.ended (stretch_kept base frame quota state sound).sound
+
+-- and within the variables
 pub stretch_within : (base : List NamedClause) (frame : CoreFrame) (quota : ℕ) (state : CoreState) → IsSound base frame state → AreLemmasWithin frame.variables (stretch frame quota state).state.lemmas
 stretch_within base frame quota state sound =
     let s = stretch frame quota state in within_at base frame s.state s.ended (stretch_kept base frame quota state sound).sound

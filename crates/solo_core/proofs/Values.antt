@@ -1,8 +1,8 @@
 -- The values of the variables on a trail, one after the other.
-use Rattle.std.proofs.Common.{◌≡◌, ℕ, zero, suc, ◌==◌, ◌+◌, Bool, true, false, cond, List, [], ◌∷◌, ◌++◌, length, reverse, refl, ap, ◌∙◌, sym, arith, add-one, add-zero}
-use Rattle.std.specs.Prelude.{Some, None, slice_get}
+use Rattle.std.proofs.Common.{◌≡◌, ℕ, zero, suc, ◌+◌, Bool, true, false, List, [], ◌∷◌, ◌++◌, reverse, refl, ap, ◌∙◌, sym, arith, add-one, add-zero}
+use Rattle.std.specs.Prelude.{Option, Some, None, is_none, slice_get}
 use Rattle.std.proofs.lemmas.Option.{same_Some}
-use Rattle.lit_base.specs.Trail.{sign_of, value_or_false, values_from}
+use Rattle.lit_base.specs.Trail.{is_free, sign_of, value_or_false, values_from}
 use Rattle.lit_base.specs.declared.trail.Entry.{Entry}
 use Rattle.trail_book.specs.TrailState.{place_of}
 use Rattle.trail_book.proofs.Places.{place_of-entry}
@@ -18,14 +18,13 @@ pub values-more : (n : ℕ) (trail : List Entry) → values_from (n + 1) 1 trail
 values-more n trail =
     rw add-one (values_from-suc n 1 trail ∙ ap (λ k. values_from n 1 trail ++ value_or_false (sign_of trail k) ∷ []) (let e : 1 + n ≡ suc n = omega arith in e))
 
--- a variable without a place has no sign
-pub no_place_no_sign : (trail : List Entry) (v : ℕ) → place_of trail v ≡ None → sign_of trail v ≡ None
-no_place_no_sign [] v none = refl
-no_place_no_sign (e ∷ older) v none = by_test (e.lit.variable == v) none (no_place_no_sign older v)
+-- a variable that is free has no sign
+pub free_is_false : (trail : List Entry) (v : ℕ) → is_free trail v ≡ true → value_or_false (sign_of trail v) ≡ false
+free_is_false trail v free = by_sign (sign_of trail v) free
   where
-    by_test : (b : Bool) → cond b (Some (length older)) (place_of older v) ≡ None → (place_of older v ≡ None → sign_of older v ≡ None) → cond b (Some e.lit.positive) (sign_of older v) ≡ None
-    by_test true is rest = cc
-    by_test false is rest = rest is
+    by_sign : (o : Option Bool) → is_none o ≡ true → value_or_false o ≡ false
+    by_sign None none = refl
+    by_sign (Some sign) none = cc
 
 -- the sign of the entry at a variable's place
 pub sign_at_place : (trail : List Entry) (v place : ℕ) (e : Entry) → place_of trail v ≡ Some place → slice_get (reverse trail) place ≡ Some e → sign_of trail v ≡ Some e.lit.positive

@@ -1,14 +1,13 @@
 -- What has to hold of a search before a step, and what its steps leave.
-use Rattle.std.specs.Prelude.{ℕ, ◌≤◌, ◌<◌, ◌≡◌, ◌≢◌, List, ◌++◌, length, Option, Some, None}
+use Rattle.std.specs.Prelude.{ℕ, ◌≤◌, ◌<◌, ◌≡◌, ◌≢◌, List, length, Option, Some, None}
 use Rattle.std.specs.List.{AllByRecursion}
 use Rattle.lit_base.specs.Rounds.{NamedClause}
 use Rattle.lit_base.specs.Held.{HeldClause, clauses_of}
 use Rattle.lit_base.specs.Fits.{IsConflict}
 use Rattle.lit_base.specs.Analysis.{lesson_of}
-use Rattle.lit_base.specs.declared.trail.Entry.{Entry}
 use Rattle.lit_base.specs.declared.name.Name.{Name}
 use Rattle.lit_base.specs.declared.lesson.Lesson.{Lesson}
-use Rattle.round_prop.specs.Attached.{IsAttached, held_names}
+use Rattle.round_prop.specs.Attached.{IsAttachedTo}
 use Rattle.solo_core.specs.State.{CoreFrame, CoreState, SearchState}
 use Rattle.solo_core.specs.Turn.{look_of}
 use Rattle.solo_core.specs.Stretch.{Stretched, after_search}
@@ -17,26 +16,18 @@ use Rattle.solo_core.specs.declared.turn.TurnEnd.{TurnEnd}
 use Rattle.solo_core.specs.declared.turn.TurnEnd.TheVariants.{Learnt}
 use Rattle.solo_core.specs.declared.sheet.End.{End}
 
--- propagation goes over the held clauses, and has seen an older part of the trail
-pub record IsAttachedTo (names : List Name) (clauses : List HeldClause) (trail : List Entry) : Type 0 where
-  pub names_are : names ≡ held_names clauses
-  pub fresh : List Name
-  pub seen : List Entry
-  pub newer : List Entry
-  pub attached : IsAttached names (clauses_of clauses) fresh seen
-  pub older : trail ≡ newer ++ seen
-
 -- no clause was a hint more often than there were conflicts
 abbrev pub AreFewUses : ℕ → List HeldClause → Type 0
 AreFewUses most held = AllByRecursion (λ c. c.uses ≤ most) held
 
 -- the parts of a search fit one another
 pub record IsJoined (s : SearchState) : Type 0 where
-  -- the trail is over the variables, of which there are few
+  -- trail and propagation are over the variables, of which there are few
   pub variables : length s.state.saved ≡ s.frame.variables
+  pub rounds_variables : s.rounds.variables ≡ s.frame.variables
   pub few : s.frame.variables ≤ 1000000
-  -- propagation goes over the held clauses
-  pub attached : IsAttachedTo s.attached s.state.clauses s.state.trail
+  -- propagation goes over the held clauses, and has seen an older part of the trail
+  pub attached : IsAttachedTo s.rounds (clauses_of s.state.clauses) s.state.trail
   -- counts don't pass the conflicts, nor these the limit
   pub uses : AreFewUses s.state.conflicts s.state.clauses
   pub lemmas : length s.state.lemmas ≤ s.state.conflicts
@@ -50,9 +41,9 @@ pub record IsReady (s : SearchState) : Type 0 where
   pub joined : IsJoined s
   pub left : s.state.conflicts < s.frame.limit
 
--- the search at a state: propagation goes over the clauses that it holds
-abbrev pub search_at : CoreFrame → CoreState → SearchState
-search_at frame state = record { frame = frame; state = state; attached = held_names state.clauses }
+-- the search is at this state
+abbrev pub IsSearchAt : CoreFrame → CoreState → SearchState → Type 0
+IsSearchAt frame state s = (s.frame ≡ frame) × (s.state ≡ state)
 
 -- the lesson is that of a conflict on the trail
 pub record IsLesson (state : CoreState) (lesson : Lesson) : Type 0 where
@@ -63,6 +54,6 @@ pub record IsLesson (state : CoreState) (lesson : Lesson) : Type 0 where
 -- after a search the stretch ends with this state, or goes on with the same state where a lemma was learnt and the limit
 -- isn't reached
 abbrev pub FollowsSearch : CoreFrame → CoreState → TurnEnd → SearchState → Option End → Type 0
-FollowsSearch frame state came_to after None = (after ≡ search_at frame state) × (came_to ≡ Learnt) × (state.conflicts ≢ frame.limit)
+FollowsSearch frame state came_to after None = IsSearchAt frame state after × (came_to ≡ Learnt) × (state.conflicts ≢ frame.limit)
 FollowsSearch frame state came_to after (Some ended) =
-    (after ≡ search_at frame after.state) × ((more : CoreState → Stretched) → after_search frame more state came_to ≡ record { state = after.state; ended = ended })
+    (after.frame ≡ frame) × ((more : CoreState → Stretched) → after_search frame more state came_to ≡ record { state = after.state; ended = ended })

@@ -1,8 +1,8 @@
 -- What holds of a core between two turns, and what a stretch leaves. `base` are the clauses that were known when the
 -- period began: originals, and lemmas of earlier periods, of this core and of those whose clauses it imported.
 use Rattle.std.specs.Prelude.{ℕ, ◌+◌, ◌≤◌, ◌≡◌, ⊤, IsTrue, IsSome, Bool, All, List, [], ◌∷◌, ◌++◌, length, Option, None}
-use Rattle.std.specs.List.{AllByRecursion}
-use Rattle.lit_base.specs.Literal.{Literal, IsWithin}
+use Rattle.std.specs.List.{AllByRecursion, IsDistinct}
+use Rattle.lit_base.specs.Literal.{Literal, IsWithin, same}
 use Rattle.lit_base.specs.Cnf.{Cnf}
 use Rattle.lit_base.specs.Truth.{is_clause_true}
 use Rattle.lit_base.specs.Trail.{is_full, model_of}
@@ -53,6 +53,10 @@ pub record IsHolding (variables : ℕ) (clauses : List HeldClause) (trail : List
   pub trail_within : AllByRecursion (λ e. IsWithin variables e.lit) trail
   pub quiet : AreQuietBelow trail (clauses_of clauses)
 
+-- the literals of each lemma are distinct
+abbrev pub AreLemmasDistinct : List Lemma → Type 0
+AreLemmasDistinct lemmas = AllByRecursion (λ lemma. IsDistinct same lemma.lits) lemmas
+
 -- none of the clauses has a name of this period or a later one, of any core
 abbrev pub NoneFrom : List NamedClause → ℕ → Type 0
 NoneFrom clauses period = (name : Name) → period ≤ name.period → lits_at clauses name ≡ None
@@ -67,7 +71,8 @@ pub record IsDeriving (base : List NamedClause) (frame : CoreFrame) (period : �
   pub named : AreNamed period frame.core 0 lemmas
   pub derived : AreDerived base lemmas
   pub none_empty : AllByRecursion HasLiterals lemmas
-  -- their literals are within the variables
+  -- the literals of each are distinct, and within the variables
+  pub lemmas_distinct : AreLemmasDistinct lemmas
   pub lemmas_within : AreLemmasWithin frame.variables lemmas
 
 -- what holds of a core between two turns

@@ -4,6 +4,7 @@ use Rattle.lit_base.specs.Rounds.{NamedClause}
 use Rattle.lit_base.specs.Held.{HeldClause}
 use Rattle.lit_base.specs.declared.trail.Entry.{Entry}
 use Rattle.lit_base.specs.declared.name.Name.{Name}
+use Rattle.round_prop.specs.Attached.{RoundsState}
 use Rattle.solo_core.specs.declared.lemma.Lemma.{Lemma}
 use Rattle.solo_core.specs.declared.sheet.End.{End}
 
@@ -41,8 +42,8 @@ pub record CoreState : Type 0 where
 pub record SearchState : Type 0 where
   pub frame : CoreFrame
   pub state : CoreState
-  -- the names of the clauses that propagation goes over
-  pub attached : List Name
+  -- what propagation keeps; only its own crate knows what that is
+  pub rounds : RoundsState
 
 -- a core
 pub record CoreValue : Type 0 where

@@ -3,8 +3,9 @@ ghost use Rattle.lit_base.specs.Cnf.{IsFormula};
 ghost use Rattle.lit_base.specs.Rounds.{original, named_from};
 ghost use Rattle.lit_base.specs.Named.{lits_at};
 ghost use Rattle.lit_base.specs.Held.{clauses_of, unused, with_clause};
+ghost use Rattle.round_prop.specs.Attached.{IsAttachedTo};
 ghost use Rattle.solo_core.specs.First.{frame_of, first_state};
-ghost use Rattle.solo_core.specs.Searching.{IsAttachedTo, IsJoined, search_at};
+ghost use Rattle.solo_core.specs.Searching.{IsJoined, IsSearchAt};
 
 use crate::holding::hold_clause;
 use crate::search::Search;
@@ -22,7 +23,7 @@ pub(crate) fn first_search(
     settings: &Settings,
     core: u32,
 ) -> Result<Search, NoMemory>
-    ensures value { IfOk result (λ search. search ≡ search_at (frame_of formula.now settings.now core) (first_state formula.now settings.now core)) }
+    ensures state { IfOk result (IsSearchAt (frame_of formula.now settings.now core) (first_state formula.now settings.now core)) }
     ensures joined { IfOk result (λ search. IsJoined search) }
     ensures formula { IsFormula formula.now }
 {
@@ -54,9 +55,10 @@ fn hold_originals(
 ) -> Result<(), NoMemory>
     requires few { length clauses.now ≤ 4000000 }
     requires empty { pool.old ≡ [] }
-    requires attached { IsAttachedTo rounds.old pool.old trail.now.entries }
+    requires attached { IsAttachedTo rounds.old (clauses_of pool.old) trail.now.entries }
     ensures held { OnOk result (pool.new ≡ map unused (named_from 0 clauses.now)) }
-    ensures attached { OnOk result (IsAttachedTo rounds.new pool.new trail.now.entries) }
+    ensures attached { OnOk result (IsAttachedTo rounds.new (clauses_of pool.new) trail.now.entries) }
+    ensures variables { rounds.new.variables ≡ rounds.old.variables }
 {
     for (index, clause) in clauses.iter().enumerate() {
         let name = Name::original(index as u32);

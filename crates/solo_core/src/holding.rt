@@ -1,10 +1,12 @@
 //! Clauses that a core holds and attaches.
 ghost use Rattle.std.specs.Prelude.{◌≡◌, ◌^◌, OnOk, IsSome, None};
 ghost use Rattle.std.specs.List.{AllByRecursion, IsDistinct};
+ghost use Rattle.lit_base.specs.Literal.{same};
 ghost use Rattle.lit_base.specs.Named.{lits_at, same_name};
 ghost use Rattle.lit_base.specs.Held.{clauses_of, unused, with_clause, with_uses};
+ghost use Rattle.round_prop.specs.Attached.{IsAttachedTo};
 ghost use Rattle.solo_core.specs.State.{lemma_clause};
-ghost use Rattle.solo_core.specs.Searching.{IsAttachedTo, AreFewUses};
+ghost use Rattle.solo_core.specs.Searching.{AreFewUses};
 
 use crate::lemma::Lemma;
 use crate::uses::count_uses;
@@ -22,9 +24,11 @@ pub(crate) fn hold_clause(
     lits: &[Lit],
 ) -> Result<(), NoMemory>
     requires free { lits_at (clauses_of pool.old) name ≡ None }
-    requires attached { IsAttachedTo rounds.old pool.old trail.now.entries }
+    requires distinct { IsDistinct same lits.now }
+    requires attached { IsAttachedTo rounds.old (clauses_of pool.old) trail.now.entries }
     ensures held { OnOk result (pool.new ≡ with_clause (unused (record { name = name; lits = lits.now })) pool.old) }
-    ensures attached { OnOk result (IsAttachedTo rounds.new pool.new trail.now.entries) }
+    ensures attached { OnOk result (IsAttachedTo rounds.new (clauses_of pool.new) trail.now.entries) }
+    ensures variables { rounds.new.variables ≡ rounds.old.variables }
 {
     pool.add(name, lits)?;
     rounds.attach(pool, trail, name)
@@ -39,11 +43,13 @@ pub(crate) fn hold_lemma(
 ) -> Result<(), NoMemory>
     requires free { lits_at (clauses_of pool.old) lemma.now.name ≡ None }
     requires held { AllByRecursion (λ hint. IsSome (lits_at (clauses_of pool.old) hint)) lemma.now.hints }
-    requires distinct { IsDistinct same_name lemma.now.hints }
+    requires distinct { IsDistinct same lemma.now.lits }
+    requires hints_distinct { IsDistinct same_name lemma.now.hints }
     requires few { AreFewUses (2 ^ 32) pool.old }
-    requires attached { IsAttachedTo rounds.old pool.old trail.now.entries }
+    requires attached { IsAttachedTo rounds.old (clauses_of pool.old) trail.now.entries }
     ensures pool { OnOk result (pool.new ≡ with_uses lemma.now.hints (with_clause (unused (lemma_clause lemma.now)) pool.old)) }
-    ensures attached { OnOk result (IsAttachedTo rounds.new pool.new trail.now.entries) }
+    ensures attached { OnOk result (IsAttachedTo rounds.new (clauses_of pool.new) trail.now.entries) }
+    ensures variables { rounds.new.variables ≡ rounds.old.variables }
 {
     hold_clause(pool, rounds, trail, lemma.name, lemma.lits.as_slice())?;
     count_uses(pool, lemma.hints.as_slice());

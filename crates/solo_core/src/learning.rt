@@ -7,10 +7,12 @@ ghost use Rattle.lit_base.specs.Held.{HeldClause, clauses_of, with_clause, with_
 ghost use Rattle.lit_base.specs.Fits.{IsConflict};
 ghost use Rattle.lit_base.specs.Quiet.{AreQuietBelow};
 ghost use Rattle.lit_base.specs.Analysis.{lesson_of};
+ghost use Rattle.lit_base.specs.Rounds.{NamedClause};
+ghost use Rattle.round_prop.specs.Attached.{IsAttachedTo};
 ghost use Rattle.trail_book.specs.TrailState.{jumped};
 ghost use Rattle.solo_core.specs.State.{lemma_name};
 ghost use Rattle.solo_core.specs.Turn.{look_of, taught, refuted, learnt, with_lemma};
-ghost use Rattle.solo_core.specs.Searching.{IsAttachedTo, AreFewUses, IsJoined, IsReady, search_at, IsLesson};
+ghost use Rattle.solo_core.specs.Searching.{IsJoined, IsReady, IsSearchAt, IsLesson};
 
 use crate::holding::hold_lemma;
 use crate::lemma::Lemma;
@@ -29,7 +31,7 @@ impl Search {
     pub(crate) fn teach(&mut self, alloc: Global, conflict: Name) -> Result<TurnEnd, NoMemory>
         requires ready { IsReady self.old }
         requires conflict { IsConflict (look_of self.old.state) self.old.state.trail conflict }
-        ensures state { OnOk result (self.new ≡ search_at self.old.frame (taught self.old.frame self.old.state (lesson_of (look_of self.old.state) self.old.state.trail conflict)).state) }
+        ensures state { OnOk result (IsSearchAt self.old.frame (taught self.old.frame self.old.state (lesson_of (look_of self.old.state) self.old.state.trail conflict)).state self.new) }
         ensures end { IfOk result (λ end. end ≡ (taught self.old.frame self.old.state (lesson_of (look_of self.old.state) self.old.state.trail conflict)).came_to) }
         ensures joined { OnOk result (IsJoined self.new) }
     {
@@ -47,7 +49,7 @@ impl Search {
     fn refute(&mut self, lesson: Lesson) -> Result<(), NoMemory>
         requires joined { IsJoined self.old }
         requires left { self.old.state.conflicts < self.old.frame.limit }
-        ensures state { OnOk result (self.new ≡ record self.old { state = refuted self.old.frame lesson self.old.state }) }
+        ensures state { OnOk result (IsSearchAt self.old.frame (refuted self.old.frame lesson self.old.state) self.new) }
         ensures joined { OnOk result (IsJoined self.new) }
     {
         let lemma = Lemma {
@@ -63,7 +65,7 @@ impl Search {
         requires ready { IsReady self.old }
         requires lesson { IsLesson self.old.state lesson }
         requires above { 0 < level_now self.old.state.trail }
-        ensures state { OnOk result (self.new ≡ search_at self.old.frame (learnt self.old.frame lesson self.old.state)) }
+        ensures state { OnOk result (IsSearchAt self.old.frame (learnt self.old.frame lesson self.old.state) self.new) }
         ensures joined { OnOk result (IsJoined self.new) }
     {
         let lemma = Lemma {
@@ -104,9 +106,9 @@ impl Search {
 pub(crate) fn jump_back(trail: &mut Trail, rounds: &mut Rounds, level: u32)
     requires { level ≤ level_now trail.old.entries }
     ensures trail { trail.new ≡ jumped level trail.old }
-    ensures value { rounds.new ≡ rounds.old }
-    ensures attached { (held : List HeldClause) → IsAttachedTo rounds.old held trail.old.entries →
-        AreQuietBelow trail.old.entries (clauses_of held) → IsAttachedTo rounds.new held trail.new.entries }
+    ensures attached { (clauses : List NamedClause) → IsAttachedTo rounds.old clauses trail.old.entries →
+        AreQuietBelow trail.old.entries clauses → IsAttachedTo rounds.new clauses trail.new.entries }
+    ensures variables { rounds.new.variables ≡ rounds.old.variables }
 {
     trail.jump(level);
     rounds.jumped(trail);

@@ -9,7 +9,7 @@ ghost use Rattle.solo_core.specs.Turn.{propagated, picked, chosen, turn, jumped}
 ghost use Rattle.solo_core.specs.Changes.{after_propagation};
 ghost use Rattle.solo_core.specs.Stretch.{search_to_conflict, search_to_quota, stretch};
 ghost use Rattle.solo_core.specs.State.{SearchState};
-ghost use Rattle.solo_core.specs.Searching.{IsJoined, IsReady, search_at, FollowsSearch};
+ghost use Rattle.solo_core.specs.Searching.{IsJoined, IsReady, IsSearchAt, FollowsSearch};
 ghost use Rattle.solo_core.specs.Soundness.{IsSound};
 ghost use Rattle.solo_core.specs.declared.turn.TurnEnd.TheVariants.{Refuted};
 
@@ -66,7 +66,7 @@ impl Model for Search {
         period_conflicts = s.period_conflicts;
         lemmas = s.lemmas;
       };
-      attached = s.rounds;
+      rounds = s.rounds;
     } };
 }
 
@@ -74,7 +74,7 @@ impl Search {
     /// Propagates over the held clauses.
     fn propagate(&mut self) -> Found
         requires { IsReady self.old }
-        ensures state { self.new ≡ record self.old { state = after_propagation self.old.frame self.old.state } }
+        ensures state { IsSearchAt self.old.frame (after_propagation self.old.frame self.old.state) self.new }
         ensures found { result ≡ found_of (propagated self.old.frame self.old.state).conflict }
         ensures joined { IsJoined self.new }
     {
@@ -95,7 +95,7 @@ impl Search {
     /// Decides the literal that is picked; where no variable is free the trail is a model.
     fn choose(&mut self) -> TurnEnd
         requires { IsJoined self.old }
-        ensures state { self.new ≡ record self.old { state = (chosen self.old.state (picked self.old.frame self.old.state)).state } }
+        ensures state { IsSearchAt self.old.frame (chosen self.old.state (picked self.old.frame self.old.state)).state self.new }
         ensures end { result ≡ (chosen self.old.state (picked self.old.frame self.old.state)).came_to }
         ensures joined { IsJoined self.new }
     {
@@ -113,7 +113,7 @@ impl Search {
     /// After `NoMemory` the search may be in any state.
     fn turn(&mut self, alloc: Global) -> Result<TurnEnd, NoMemory>
         requires { IsReady self.old }
-        ensures state { OnOk result (self.new ≡ search_at self.old.frame (turn self.old.frame self.old.state).state) }
+        ensures state { OnOk result (IsSearchAt self.old.frame (turn self.old.frame self.old.state).state self.new) }
         ensures end { IfOk result (λ end. end ≡ (turn self.old.frame self.old.state).came_to) }
         ensures joined { OnOk result (IsJoined self.new) }
     {
@@ -128,7 +128,7 @@ impl Search {
     /// After `NoMemory` the search may be in any state.
     fn search_to_conflict(&mut self, alloc: Global) -> Result<TurnEnd, NoMemory>
         requires { IsReady self.old }
-        ensures state { OnOk result (self.new ≡ search_at self.old.frame (search_to_conflict (self.old.frame.variables + 1) self.old.frame self.old.state).state) }
+        ensures state { OnOk result (IsSearchAt self.old.frame (search_to_conflict (self.old.frame.variables + 1) self.old.frame self.old.state).state self.new) }
         ensures end { IfOk result (λ end. end ≡ (search_to_conflict (self.old.frame.variables + 1) self.old.frame self.old.state).came_to) }
         ensures joined { OnOk result (IsJoined self.new) }
     {
@@ -148,7 +148,7 @@ impl Search {
     pub(crate) fn stretch(&mut self, alloc: Global, quota: u32) -> Result<End, NoMemory>
         requires sound { (base : List NamedClause) × IsSound base self.old.frame self.old.state }
         requires joined { IsJoined self.old }
-        ensures state { OnOk result (self.new ≡ search_at self.old.frame (stretch self.old.frame quota self.old.state).state) }
+        ensures state { OnOk result (IsSearchAt self.old.frame (stretch self.old.frame quota self.old.state).state self.new) }
         ensures end { IfOk result (λ ended. ended ≡ (stretch self.old.frame quota self.old.state).ended) }
         ensures joined { OnOk result (IsJoined self.new) }
     {
@@ -161,7 +161,7 @@ impl Search {
     /// A search for each conflict of the quota, below the limit.
     fn search_to_quota(&mut self, alloc: Global, quota: u32) -> Result<End, NoMemory>
         requires { IsReady self.old }
-        ensures state { OnOk result (self.new ≡ search_at self.old.frame (search_to_quota quota self.old.frame self.old.state).state) }
+        ensures state { OnOk result (IsSearchAt self.old.frame (search_to_quota quota self.old.frame self.old.state).state self.new) }
         ensures end { IfOk result (λ ended. ended ≡ (search_to_quota quota self.old.frame self.old.state).ended) }
         ensures joined { OnOk result (IsJoined self.new) }
     {
@@ -203,7 +203,7 @@ impl Search {
     fn jump_to_root(&mut self)
         requires joined { IsJoined self.old }
         requires quiet { AreQuietBelow self.old.state.trail (clauses_of self.old.state.clauses) }
-        ensures state { self.new ≡ record self.old { state = jumped 0 self.old.state } }
+        ensures state { IsSearchAt self.old.frame (jumped 0 self.old.state) self.new }
         ensures joined { IsJoined self.new }
     {
         jump_back(&mut self.trail, &mut self.rounds, 0);
@@ -218,7 +218,7 @@ fn first_free(trail: &Trail, variables: u32) -> Option<u32>
     ensures high { IfSome result (λ var. var ≤ variables) }
 {
     for index in 0..variables {
-        if trail.place(index + 1).is_none() {
+        if trail.is_free(index + 1) {
             return Some(index + 1);
         }
     }

@@ -18,7 +18,7 @@ ghost use Rattle.solo_core.specs.Turn.{look_of, propagated, turn};
 ghost use Rattle.solo_core.specs.declared.turn.TurnEnd.TheVariants.{Refuted};
 ghost use Rattle.solo_core.specs.Stretch.{stretch};
 ghost use Rattle.solo_core.specs.Log.{lines_of, AreNumbered, NumbersOriginals};
-ghost use Rattle.solo_core.specs.Soundness.{IsSound, AreDerived, AreNamed, AreLemmasWithin, AreTrueIn, EndsEmpty, IsModelFound, HoldsFormula};
+ghost use Rattle.solo_core.specs.Soundness.{IsSound, AreDerived, AreNamed, AreLemmasDistinct, AreLemmasWithin, AreTrueIn, EndsEmpty, IsModelFound, HoldsFormula};
 ghost use Rattle.solo_core.specs.declared.sheet.End.TheVariants.{Sat, Unsat};
 
 /// The first state of a core is sound, over the clauses of the formula, and holds them all.
@@ -49,13 +49,15 @@ pub fn law_conflict_asserts()
 {}
 
 /// The lemmas of a stretch are derived, each from its hints, which name clauses that were held when the
-/// period began or earlier lemmas, and their literals are within the variables. At Unsat the last of them, and no earlier one, is empty; at each
+/// period began or earlier lemmas, and the literals of each are distinct and within the variables. At Unsat the last of them, and no earlier one, is empty; at each
 /// other end none is, and what is sound is kept. At Sat the trail is a model of every held clause.
 pub fn law_stretch_is_sound()
     ensures derived { (base : List NamedClause) (frame : CoreFrame) (quota : ℕ) (state : CoreState) →
         IsSound base frame state → AreDerived base (stretch frame quota state).state.lemmas }
     ensures named { (base : List NamedClause) (frame : CoreFrame) (quota : ℕ) (state : CoreState) →
         IsSound base frame state → AreNamed state.period frame.core 0 (stretch frame quota state).state.lemmas }
+    ensures distinct { (base : List NamedClause) (frame : CoreFrame) (quota : ℕ) (state : CoreState) →
+        IsSound base frame state → AreLemmasDistinct (stretch frame quota state).state.lemmas }
     ensures within { (base : List NamedClause) (frame : CoreFrame) (quota : ℕ) (state : CoreState) →
         IsSound base frame state → AreLemmasWithin frame.variables (stretch frame quota state).state.lemmas }
     ensures empty_at_unsat { (base : List NamedClause) (frame : CoreFrame) (quota : ℕ) (state : CoreState) →

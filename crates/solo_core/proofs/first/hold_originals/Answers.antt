@@ -23,4 +23,5 @@ loop-index-preserved c =
           ∙ (ap (λ name. with_clause (unused (record { name = name; lits = lits })) c.loop-index.pool) c.original-name.ensures
           ∙ (ap (with_clause (held_original i lits)) c.loop-index.invariant.held ∙ held_from-more clauses i lits c.loop-index-test.true is));
       attached = c.in_ok-hold_clause.ensures.attached;
+      variables = c.in_ok-hold_clause.ensures.variables ∙ c.loop-index.invariant.variables;
     }

@@ -1,5 +1,6 @@
 use Rattle.std.proofs.Common.{◌≡◌, take}
-use Rattle.solo_core.specs.Searching.{IsAttachedTo}
+use Rattle.lit_base.specs.Held.{clauses_of}
+use Rattle.round_prop.specs.Attached.{IsAttachedTo}
 use Rattle.solo_core.proofs.FirstClauses.{held_from}
 use Rattle.solo_core.proofs.first.hold_originals.Given as goal
 
@@ -7,5 +8,6 @@ use Rattle.solo_core.proofs.first.hold_originals.Given as goal
 abbrev pub invariant-loop-index : goal.invariant-loop-index
 invariant-loop-index l = record {
   held : l.pool ≡ held_from 0 (take l.index l.clauses);
-  attached : IsAttachedTo l.rounds l.pool l.trail.entries;
+  attached : IsAttachedTo l.rounds (clauses_of l.pool) l.trail.entries;
+  variables : l.rounds.variables ≡ l.fn.rounds.variables;
 }

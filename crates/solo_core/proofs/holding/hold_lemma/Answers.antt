@@ -1,14 +1,15 @@
 use Rattle.std.proofs.Common.{◌≡◌, ◌^◌, List, subst, sym, ap, ◌∙◌}
 use Rattle.std.specs.Prelude.{IsSome}
-use Rattle.std.specs.List.{AllByRecursion}
-use Rattle.lit_base.specs.Literal.{Literal}
+use Rattle.std.specs.List.{AllByRecursion, IsDistinct}
+use Rattle.lit_base.specs.Literal.{Literal, same}
 use Rattle.lit_base.specs.Named.{lits_at}
-use Rattle.lit_base.specs.Held.{HeldClause, clauses_of, unused, with_clause, with_uses}
+use Rattle.lit_base.specs.Held.{HeldClause, clauses_of, unused, with_clause}
 use Rattle.lit_base.specs.declared.name.Name.{Name}
 use Rattle.lit_base.proofs.HeldClauses.{finds_more-with}
 use Rattle.solo_core.specs.declared.lemma.Lemma.{Lemma}
+use Rattle.round_prop.specs.Attached.{IsAttachedTo}
 use Rattle.solo_core.specs.State.{lemma_clause}
-use Rattle.solo_core.specs.Searching.{AreFewUses, IsAttachedTo}
+use Rattle.solo_core.specs.Searching.{AreFewUses}
 use Rattle.solo_core.proofs.CountedUses.{few_uses-with}
 use Rattle.solo_core.proofs.Derived.{hints_more}
 use Rattle.solo_core.proofs.Joined.{uses_attached}
@@ -18,6 +19,10 @@ use Rattle.solo_core.proofs.holding.hold_lemma.Goals as goal
 with_lits : (lemma : Lemma) (lits : List Literal) (held after : List HeldClause) → after ≡ with_clause (unused (record { name = lemma.name; lits = lits })) held → lits ≡ lemma.lits →
     after ≡ with_clause (unused (lemma_clause lemma)) held
 with_lits lemma lits held after is same = is ∙ ap (λ ls. with_clause (unused (record { name = lemma.name; lits = ls })) held) same
+
+-- the literals are distinct
+pub hold_clause-requires-clause-distinct : goal.hold_clause-requires-clause-distinct
+hold_clause-requires-clause-distinct c = subst (IsDistinct same) (sym c.as_slice.ensures) c.requires.distinct
 
 -- the hints are held still
 pub count_uses-requires-clause-held : goal.count_uses-requires-clause-held
@@ -39,5 +44,5 @@ count_uses-requires-clause-few c =
 -- propagation goes over the lemma too
 pub returns-clause-attached : goal.returns-clause-attached
 returns-clause-attached c =
-    subst (λ (held : List HeldClause). IsAttachedTo c.hold_clause.new.rounds held c.args.trail.now.entries) (sym c.count_uses.ensures)
+    subst (λ (held : List HeldClause). IsAttachedTo c.hold_clause.new.rounds (clauses_of held) c.args.trail.now.entries) (sym c.count_uses.ensures)
     (uses_attached c.hold_clause.new.rounds c.hold_clause.new.pool c.args.trail.now.entries c.as_slice-2.result.now c.in_ok-hold_clause.ensures.attached)

@@ -15,7 +15,7 @@ returns-in_default c =
     subst (λ (v : ℕ). HasSearched frame (search_to_conflict (v + 1) frame state) c.turn.new.self c.in_ok-end.end) variables
     (leaves frame (search_to_conflict most frame state) (most - c.loop.counter) (most - (c.loop.counter + 1)) c.loop.self c.turn.new.self
     c.in_ok-end.end (omega arith) c.loop.invariant c.in_ok-end.ensures.state c.in_ok-end.ensures.end c.in_default.not-Decided) in
-    record { state = done.state; end = done.end; joined = c.in_ok-end.ensures.joined }
+    record { state = done.at; end = done.end; joined = c.in_ok-end.ensures.joined }
 
 -- a decision
 pub loop-preserved : goal.loop-preserved

@@ -14,7 +14,7 @@ returns-in-Some c =
     let quota = c.args.quota in
     let done = stretch_leaves c.args.self.now.frame (search_to_quota quota c.args.self.now.frame c.args.self.now.state) (quota - c.loop.counter) (quota - (c.loop.counter + 1)) c.loop.self
     c.search_to_conflict.new.self c.after_search.new.self c.in_ok-end.end c.in-Some.ended (omega arith) c.loop.invariant c.in_ok-end.ensures.state c.in_ok-end.ensures.end c.in-Some.ensures.follows in
-    record { state = done.state; end = done.end; joined = c.in-Some.ensures.joined }
+    record { state = done.at; end = done.end; joined = c.in-Some.ensures.joined }
 
 -- another search follows
 pub loop-preserved : goal.loop-preserved
