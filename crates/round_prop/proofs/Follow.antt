@@ -5,10 +5,9 @@ use Rattle.std.proofs.lemmas.List.{reverse-append, append-nil}
 use Rattle.lit_base.specs.Literal.{Literal}
 use Rattle.lit_base.specs.Rounds.{NamedClause}
 use Rattle.lit_base.specs.Named.{same_name, lits_at}
-use Rattle.lit_base.specs.Held.{HeldClause, clause_of, clauses_of, is_before, with_clause, without_names, is_among}
+use Rattle.lit_base.specs.Held.{HeldClause, clause_of, clauses_of, is_before, with_clause, without_names, is_among, names_of, with_named, clauses_without}
 use Rattle.lit_base.specs.declared.name.Name.{Name}
 use Rattle.lit_base.proofs.HeldClauses.{lits_at-cons}
-use Rattle.round_prop.specs.Attached.{names_of, with_name, with_named, names_without, clauses_without}
 use Rattle.round_prop.specs.Rows.{clause_of_row, clauses_of_rows}
 use Rattle.round_prop.specs.declared.row.Row.{Row}
 
@@ -30,19 +29,9 @@ clauses_of-with_clause c (d ∷ later) =
     map-cond clause_of (is_before c.name d.name) (c ∷ d ∷ later) (d ∷ with_clause c later)
     ∙ ap (λ ds. cond (is_before c.name d.name) (clause_of c ∷ clause_of d ∷ clauses_of later) (clause_of d ∷ ds)) (clauses_of-with_clause c later)
 
--- the names with one clause more
-pub names_of-with_named : (c : NamedClause) (clauses : List NamedClause) → names_of (with_named c clauses) ≡ with_name c.name (names_of clauses)
-names_of-with_named c [] = refl
-names_of-with_named c (d ∷ later) =
-    map-cond (λ (e : NamedClause). e.name) (is_before c.name d.name) (c ∷ d ∷ later) (d ∷ with_named c later)
-    ∙ ap (λ ns. cond (is_before c.name d.name) (c.name ∷ d.name ∷ names_of later) (d.name ∷ ns)) (names_of-with_named c later)
-
--- the clauses, the names of held clauses and those of clauses without some
+-- and without some
 pub clauses_of-without_names : (names : List Name) (held : List HeldClause) → clauses_of (without_names names held) ≡ clauses_without names (clauses_of held)
 clauses_of-without_names names held = map-filter clause_of (λ c. not (is_among names c.name)) held
-
-pub names_of-clauses_without : (names : List Name) (clauses : List NamedClause) → names_of (clauses_without names clauses) ≡ names_without names (names_of clauses)
-names_of-clauses_without names clauses = map-filter (λ (c : NamedClause). c.name) (λ n. not (is_among names n)) clauses
 
 -- a name is among those of clauses where one is found under it
 pub is_among-names_of : (clauses : List NamedClause) (name : Name) → is_among (names_of clauses) name ≡ is_some (lits_at clauses name)

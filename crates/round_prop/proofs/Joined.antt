@@ -7,12 +7,12 @@ use Rattle.std.proofs.lemmas.List.Elements.{All-nil}
 use Rattle.lit_base.specs.Literal.{IsWithin}
 use Rattle.lit_base.specs.Rounds.{NamedClause}
 use Rattle.lit_base.specs.Named.{same_name, lits_at}
-use Rattle.lit_base.specs.Held.{HeldClause, clause_of, clauses_of, with_clause, without_names}
+use Rattle.lit_base.specs.Held.{HeldClause, clause_of, clauses_of, with_clause, without_names, with_named, names_without, clauses_without}
 use Rattle.lit_base.specs.declared.trail.Entry.{Entry}
 use Rattle.lit_base.specs.declared.name.Name.{Name}
 use Rattle.lit_base.proofs.HeldClauses.{same_name-itself, lits_at-with, All-with, All-without}
 use Rattle.trail_book.specs.TrailState.{TrailState}
-use Rattle.round_prop.specs.Attached.{RoundsState, IsAttached, IsAttachedTo, IsNewTo, with_named, names_without, clauses_without}
+use Rattle.round_prop.specs.Attached.{RoundsState, IsAttached, IsAttachedTo, IsNewTo}
 use Rattle.round_prop.specs.Propagation.{MayPropagate, HasPropagated}
 use Rattle.round_prop.specs.declared.found.Found.{Found}
 use Rattle.round_prop.proofs.Follow.{clauses_of-with_clause, clauses_of-without_names}

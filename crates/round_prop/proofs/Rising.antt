@@ -5,66 +5,67 @@ use Rattle.std.specs.List.{AllByRecursion}
 use Rattle.std.specs.List.Sorted.{IsPartitionedBy, IsPartitionPoint}
 use Rattle.std.proofs.lemmas.Bool.{cond_both, cond-true, cond-false, or_parts}
 use Rattle.lit_base.specs.Named.{same_name}
-use Rattle.lit_base.specs.Held.{is_before, is_among}
+use Rattle.lit_base.specs.Rounds.{NamedClause}
+use Rattle.lit_base.specs.Held.{is_before, is_among, names_of, with_named, AreRisingBy}
 use Rattle.lit_base.specs.declared.name.Name.{Name}
+use Rattle.lit_base.proofs.NameOrder.{not_before}
 use Rattle.clause_pool.proofs.Order.{is_before-trans, is_before-other}
-use Rattle.round_prop.specs.Attached.{names_of, with_name, with_named, AreRising}
 use Rattle.round_prop.specs.Rows.{clause_of_row, clauses_of_rows}
 use Rattle.round_prop.specs.declared.row.Row.{Row}
-
--- of two names at most one is before the other
-is_before-not : (a b : Name) → is_before a b ≡ true → is_before b a ≡ false
-is_before-not a b first = grind arith
 
 -- of two different names that aren't in order the other is before the one
 is_before-new : (a b : Name) → is_before a b ≡ false → same_name a b ≡ false → is_before b a ≡ true
 is_before-new a b after apart = grind arith
 
--- the name is before all of these
-abbrev IsFirst : Name → List Name → Type 0
-IsFirst name names = AllByRecursion (λ other. IsTrue (is_before name other)) names
+-- the name is before those of all these clauses
+abbrev IsFirst : Name → List NamedClause → Type 0
+IsFirst name clauses = AllByRecursion (λ d. IsTrue (is_before name d.name)) clauses
 
-first-trans : (a b : Name) (names : List Name) → is_before a b ≡ true → IsFirst b names → IsFirst a names
+-- the clauses stand by rising names
+abbrev AreInOrder : List NamedClause → Type 0
+AreInOrder clauses = AreRisingBy (λ (c : NamedClause). c.name) clauses
+
+first-trans : (a b : Name) (clauses : List NamedClause) → is_before a b ≡ true → IsFirst b clauses → IsFirst a clauses
 first-trans a b [] before first = tt
-first-trans a b (other ∷ later) before first = (is_before-trans a b other before first.0, first-trans a b later before first.1)
+first-trans a b (d ∷ later) before first = (is_before-trans a b d.name before first.0, first-trans a b later before first.1)
 
-first-with : (a name : Name) (names : List Name) → is_before a name ≡ true → IsFirst a names → IsFirst a (with_name name names)
-first-with a name [] before first = (before, tt)
-first-with a name (other ∷ later) before first =
-    cond_both (is_before name other) (name ∷ other ∷ later) (other ∷ with_name name later) (λ names. IsFirst a names)
-    (λ t. (before, first)) (λ f. (first.0, first-with a name later before first.1))
+first-with : (a : Name) (c : NamedClause) (clauses : List NamedClause) → is_before a c.name ≡ true → IsFirst a clauses → IsFirst a (with_named c clauses)
+first-with a c [] before first = (before, tt)
+first-with a c (d ∷ later) before first =
+    cond_both (is_before c.name d.name) (c ∷ d ∷ later) (d ∷ with_named c later) (λ clauses. IsFirst a clauses)
+    (λ t. (before, first)) (λ f. (first.0, first-with a c later before first.1))
 
--- a new name keeps the order
-pub rising-with_name : (name : Name) (names : List Name) → IsFalse (is_among names name) → AreRising names → AreRising (with_name name names)
-rising-with_name name [] new rising = (tt, tt)
-rising-with_name name (other ∷ later) new rising =
-    let apart = or_parts (same_name other name) (is_among later name) new in
-    cond_both (is_before name other) (name ∷ other ∷ later) (other ∷ with_name name later) AreRising
-    (λ before. ((before, first-trans name other later before rising.0), rising))
-    (λ after. (first-with other name later (is_before-other name other after apart.0) rising.0, rising-with_name name later apart.1 rising.1))
+-- a clause of a new name keeps the order
+pub rising-with : (c : NamedClause) (clauses : List NamedClause) → IsFalse (is_among (names_of clauses) c.name) → AreInOrder clauses → AreInOrder (with_named c clauses)
+rising-with c [] new rising = (tt, tt)
+rising-with c (d ∷ later) new rising =
+    let apart = or_parts (same_name d.name c.name) (is_among (names_of later) c.name) new in
+    cond_both (is_before c.name d.name) (c ∷ d ∷ later) (d ∷ with_named c later) AreInOrder
+    (λ before. ((before, first-trans c.name d.name later before rising.0), rising))
+    (λ after. (first-with d.name c later (is_before-other c.name d.name after apart.0) rising.0, rising-with c later apart.1 rising.1))
 
 -- what is before all is before the name of each row
-first_before : (name : Name) (rows : List Row) → IsFirst name (names_of (clauses_of_rows rows)) → (index : ℕ) (d : Row) → index < length rows →
+first_before : (name : Name) (rows : List Row) → IsFirst name (clauses_of_rows rows) → (index : ℕ) (d : Row) → index < length rows →
     is_before name (slice_index_or rows index d).name ≡ true
 first_before name [] first index d inside = absurd (omega arith)
 first_before name (row ∷ later) first zero d inside = first.0
 first_before name (row ∷ later) first (suc index) d inside = first_before name later first.1 index d (omega arith)
 
-first-filter : (a : Name) (p : Name → Bool) (names : List Name) → IsFirst a names → IsFirst a (filter p names)
+first-filter : (a : Name) (p : NamedClause → Bool) (clauses : List NamedClause) → IsFirst a clauses → IsFirst a (filter p clauses)
 first-filter a p [] first = tt
-first-filter a p (other ∷ later) first =
-    cond_both (p other) (other ∷ filter p later) (filter p later) (λ names. IsFirst a names)
+first-filter a p (d ∷ later) first =
+    cond_both (p d) (d ∷ filter p later) (filter p later) (λ clauses. IsFirst a clauses)
     (λ kept. (first.0, first-filter a p later first.1)) (λ dropped. first-filter a p later first.1)
 
 -- and so does what is kept of them
-pub rising-filter : (p : Name → Bool) (names : List Name) → AreRising names → AreRising (filter p names)
+pub rising-filter : (p : NamedClause → Bool) (clauses : List NamedClause) → AreInOrder clauses → AreInOrder (filter p clauses)
 rising-filter p [] rising = tt
-rising-filter p (name ∷ later) rising =
-    cond_both (p name) (name ∷ filter p later) (filter p later) AreRising
-    (λ kept. (first-filter name p later rising.0, rising-filter p later rising.1)) (λ dropped. rising-filter p later rising.1)
+rising-filter p (c ∷ later) rising =
+    cond_both (p c) (c ∷ filter p later) (filter p later) AreInOrder
+    (λ kept. (first-filter c.name p later rising.0, rising-filter p later rising.1)) (λ dropped. rising-filter p later rising.1)
 
 -- rows whose names are before a name are the first ones
-pub partitioned_before : (name : Name) (rows : List Row) → AreRising (names_of (clauses_of_rows rows)) → IsPartitionedBy (λ row. is_before row.name name) rows
+pub partitioned_before : (name : Name) (rows : List Row) → AreInOrder (clauses_of_rows rows) → IsPartitionedBy (λ row. is_before row.name name) rows
 partitioned_before name [] rising i j d low high before = absurd (omega arith)
 partitioned_before name (first ∷ later) rising zero zero d low high before = before
 partitioned_before name (first ∷ later) rising zero (suc j) d low high before =
@@ -89,4 +90,4 @@ insert-place row (first ∷ later) (suc place) new within parts =
     let rest = clauses_of_rows later in
     ap (λ clauses. clause_of_row first ∷ clauses)
     (insert-place row later place apart.1 (omega arith) (λ k d low high. parts.0 (suc k) d (omega arith) (omega arith), λ k d low high. parts.1 (suc k) d (omega arith) (omega arith)))
-    ∙ sym (cond-false (is_before row.name first.name) (clause_of_row row ∷ clause_of_row first ∷ rest) (clause_of_row first ∷ with_named (clause_of_row row) rest) (is_before-not first.name row.name before))
+    ∙ sym (cond-false (is_before row.name first.name) (clause_of_row row ∷ clause_of_row first ∷ rest) (clause_of_row first ∷ with_named (clause_of_row row) rest) (not_before first.name row.name before))

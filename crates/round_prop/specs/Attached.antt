@@ -1,39 +1,12 @@
 -- Clauses that are attached for propagation.
-use Rattle.std.specs.Prelude.{◌≡◌, ◌⊎◌, ◌++◌, ⊤, ℕ, IsTrue, IsFalse, IsSome, None, not, List, [], ◌∷◌, map, filter, if◌then◌else◌}
+use Rattle.std.specs.Prelude.{◌≡◌, ◌⊎◌, ◌++◌, ℕ, IsFalse, IsSome, None, List, []}
 use Rattle.std.specs.List.{AllByRecursion, IsDistinct}
 use Rattle.lit_base.specs.Rounds.{NamedClause}
 use Rattle.lit_base.specs.Named.{same_name, lits_at}
-use Rattle.lit_base.specs.Held.{is_before, is_among}
+use Rattle.lit_base.specs.Held.{is_among}
 use Rattle.lit_base.specs.Quiet.{IsQuiet}
 use Rattle.lit_base.specs.declared.trail.Entry.{Entry}
 use Rattle.lit_base.specs.declared.name.Name.{Name}
-
--- the names of clauses
-abbrev pub names_of : List NamedClause → List Name
-names_of clauses = map (λ c. c.name) clauses
-
--- names with one more, in front of the first that is greater
-abbrev pub with_name : Name → List Name → List Name
-with_name name [] = name ∷ []
-with_name name (other ∷ later) = if is_before name other then name ∷ other ∷ later else other ∷ with_name name later
-
--- the clauses with one more, in front of the first that has a greater name
-abbrev pub with_named : NamedClause → List NamedClause → List NamedClause
-with_named c [] = c ∷ []
-with_named c (d ∷ later) = if is_before c.name d.name then c ∷ d ∷ later else d ∷ with_named c later
-
--- names but these
-abbrev pub names_without : List Name → List Name → List Name
-names_without dropped names = filter (λ name. not (is_among dropped name)) names
-
--- the clauses but those with these names
-abbrev pub clauses_without : List Name → List NamedClause → List NamedClause
-clauses_without dropped clauses = filter (λ c. not (is_among dropped c.name)) clauses
-
--- names stand in rising order: each is before all later ones
-abbrev pub AreRising : List Name → Type 0
-AreRising [] = ⊤
-AreRising (name ∷ later) = AllByRecursion (λ other. IsTrue (is_before name other)) later × AreRising later
 
 -- what attached clauses are to contracts: of its fields other crates read `variables` alone, and learn the rest by `IsAttached`
 pub record RoundsState : Type 0 where

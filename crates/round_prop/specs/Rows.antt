@@ -3,9 +3,8 @@ use Rattle.std.specs.Prelude.{◌≡◌, ◌≤◌, ℕ, List, [], Option, Some,
 use Rattle.lit_base.specs.Literal.{Literal}
 use Rattle.lit_base.specs.Rounds.{NamedClause}
 use Rattle.lit_base.specs.Named.{lits_at}
-use Rattle.lit_base.specs.Held.{clauses_of}
+use Rattle.lit_base.specs.Held.{clauses_of, AreRisingBy}
 use Rattle.lit_base.specs.declared.trail.Entry.{Entry}
-use Rattle.round_prop.specs.Attached.{names_of, AreRising}
 use Rattle.round_prop.specs.declared.row.Row.{Row}
 
 -- the literals that were found, and none where nothing was
@@ -23,6 +22,6 @@ clauses_of_rows rows = map clause_of_row rows
 
 -- rows by rising names, with room for a candidate of each, and the number of the entries that were seen
 pub record AreRows (rows : List Row) (room : ℕ) (seen : ℕ) (entries : List Entry) : Type 0 where
-  pub rising : AreRising (names_of (clauses_of_rows rows))
+  pub rising : AreRisingBy (λ (c : NamedClause). c.name) (clauses_of_rows rows)
   pub room_for_all : length rows ≤ room
   pub seen_are : seen ≡ length entries

@@ -1,10 +1,10 @@
 //! Laws of attached clauses: functions that do nothing, whose contracts state them.
 ghost use Rattle.std.specs.Prelude.{◌≡◌, List};
 ghost use Rattle.lit_base.specs.Rounds.{NamedClause};
-ghost use Rattle.lit_base.specs.Held.{HeldClause, clause_of, clauses_of, with_clause, without_names};
+ghost use Rattle.lit_base.specs.Held.{HeldClause, clause_of, clauses_of, with_clause, without_names, with_named, clauses_without};
 ghost use Rattle.lit_base.specs.declared.trail.Entry.{Entry};
 ghost use Rattle.lit_base.specs.declared.name.Name.{Name};
-ghost use Rattle.round_prop.specs.Attached.{RoundsState, IsAttached, with_named, clauses_without};
+ghost use Rattle.round_prop.specs.Attached.{RoundsState, IsAttached};
 
 /// What is told of attached clauses is determined: which these are with their literals, which are fresh, and what was seen.
 pub fn law_attached_is_determined()

@@ -1,7 +1,7 @@
 //! Rows in the rising order of their names.
 ghost use Rattle.std.specs.Prelude.{◌≡◌, ◌≤◌, IsFalse, length, map, insert};
-ghost use Rattle.lit_base.specs.Held.{is_before, is_among};
-ghost use Rattle.round_prop.specs.Attached.{names_of, with_named, AreRising};
+ghost use Rattle.lit_base.specs.Rounds.{NamedClause};
+ghost use Rattle.lit_base.specs.Held.{is_before, is_among, names_of, with_named, AreRisingBy};
 ghost use Rattle.round_prop.specs.Rows.{clause_of_row, clauses_of_rows};
 ghost use Rattle.round_prop.specs.declared.row.Row.{Row};
 
@@ -10,7 +10,7 @@ use lit_base::Name;
 
 /// The place among rows in order at which a row of a name that isn't one of theirs belongs.
 pub(crate) fn place_for(rows: &[Row], name: Name) -> usize
-    requires rising { AreRising (names_of (clauses_of_rows rows.now)) }
+    requires rising { AreRisingBy (λ (c : NamedClause). c.name) (clauses_of_rows rows.now) }
     requires new { IsFalse (is_among (names_of (clauses_of_rows rows.now)) name) }
     ensures within { result ≤ length rows.now }
     ensures place { (row : Row) → row.name ≡ name →

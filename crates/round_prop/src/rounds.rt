@@ -1,11 +1,11 @@
 ghost use Rattle.std.specs.Prelude.{◌≡◌, ◌≤◌, ◌++◌, [], ◌∷◌, List, IsSome, Some, None, IfOk, OnOk, OnErr};
 ghost use Rattle.lit_base.specs.Literal.{Literal};
 ghost use Rattle.lit_base.specs.Named.{lits_at};
-ghost use Rattle.lit_base.specs.Held.{clauses_of};
+ghost use Rattle.lit_base.specs.Held.{clauses_of, with_named, names_without, clauses_without};
 ghost use Rattle.lit_base.specs.Rounds.{NamedClause};
 ghost use Rattle.lit_base.specs.declared.trail.Entry.{Entry};
 ghost use Rattle.lit_base.specs.declared.name.Name.{Name};
-ghost use Rattle.round_prop.specs.Attached.{with_named, names_without, clauses_without, IsAttached, IsNewTo, AreAttachedNames, IsSettled};
+ghost use Rattle.round_prop.specs.Attached.{IsAttached, IsNewTo, AreAttachedNames, IsSettled};
 ghost use Rattle.round_prop.specs.Propagation.{MayPropagate, HasPropagated};
 
 use crate::candidate::Candidate;

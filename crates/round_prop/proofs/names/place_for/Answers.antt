@@ -2,8 +2,7 @@ use Rattle.std.proofs.Common.{◌≡◌, true, false, rules, sym, subst}
 use Rattle.std.specs.Prelude.{IsFalse}
 use Rattle.std.specs.List.Sorted.{IsPartitionPoint}
 use Rattle.std.proofs.lemmas.List.Sorted.{IsPartitionPoint-from_clause}
-use Rattle.lit_base.specs.Held.{is_before, is_among}
-use Rattle.round_prop.specs.Attached.{names_of}
+use Rattle.lit_base.specs.Held.{is_before, is_among, names_of}
 use Rattle.round_prop.specs.Rows.{clauses_of_rows}
 use Rattle.round_prop.specs.declared.row.Row.{Row}
 use Rattle.round_prop.proofs.Rising.{partitioned_before, insert-place}

@@ -3,14 +3,14 @@ use Rattle.std.specs.Prelude.{IsFalse, insert, reverse}
 use Rattle.std.proofs.lemmas.List.{reverse-append}
 use Rattle.lit_base.specs.Literal.{Literal}
 use Rattle.lit_base.specs.Named.{lits_at}
-use Rattle.lit_base.specs.Held.{clauses_of, is_among}
+use Rattle.lit_base.specs.Held.{clauses_of, is_among, names_of, with_named, AreRisingBy}
 use Rattle.lit_base.specs.Rounds.{NamedClause}
 use Rattle.lit_base.specs.declared.name.Name.{Name}
-use Rattle.round_prop.specs.Attached.{RoundsState, IsAttached, IsNewTo, AreRising, names_of, with_named}
+use Rattle.round_prop.specs.Attached.{RoundsState, IsAttached, IsNewTo}
 use Rattle.round_prop.specs.Rows.{clause_of_row, clauses_of_rows, found_lits}
 use Rattle.round_prop.specs.declared.row.Row.{Row}
-use Rattle.round_prop.proofs.Follow.{names_of-with_named, not_among}
-use Rattle.round_prop.proofs.Rising.{rising-with_name}
+use Rattle.round_prop.proofs.Follow.{not_among}
+use Rattle.round_prop.proofs.Rising.{rising-with}
 use Rattle.round_prop.proofs.rounds.Rounds.attach.Goals as goal
 use Rattle.round_prop.proofs.rounds.Rounds.attach.Goals.{After-push_reserved}
 
@@ -38,8 +38,8 @@ invariant_of-self-2 c =
     let one : NamedClause = clause_of_row (record { name = c.args.name; pool = c.of-pool.result }) in
     record {
       rising =
-          subst (λ cs. AreRising (names_of cs)) (sym (put c))
-          (subst AreRising (sym (names_of-with_named one clauses)) (rising-with_name c.args.name (names_of clauses) (not_attached c.args.self.now c.args.name c.self.inside.rows.items (ap (λ (r : RoundsState). r.attached) c.self.view_is) c.requires.new) c.self.invariant.rising));
+          subst (AreRisingBy (λ (d : NamedClause). d.name)) (sym (put c))
+          (rising-with one clauses (not_attached c.args.self.now c.args.name c.self.inside.rows.items (ap (λ (r : RoundsState). r.attached) c.self.view_is) c.requires.new) c.self.invariant.rising);
       room_for_all = omega (arith, c.in_ok-insert.ensures.len, c.in_ok-reserve.ensures.ok);
       seen_are = c.self.invariant.seen_are;
     }

@@ -1,12 +1,13 @@
 use Rattle.std.proofs.Common.{◌≡◌, Bool, not, rules, ap, sym, ◌∙◌, subst, arith}
 use Rattle.std.specs.Prelude.{reverse}
 use Rattle.std.proofs.lemmas.Fn.{filter_same}
-use Rattle.lit_base.specs.Held.{is_among}
+use Rattle.lit_base.specs.Held.{is_among, names_without, clauses_without, AreRisingBy}
+use Rattle.lit_base.specs.Rounds.{NamedClause}
 use Rattle.lit_base.specs.declared.name.Name.{Name}
-use Rattle.round_prop.specs.Attached.{RoundsState, IsAttached, AreRising, names_of, names_without, clauses_without}
+use Rattle.round_prop.specs.Attached.{RoundsState, IsAttached}
 use Rattle.round_prop.specs.Rows.{clauses_of_rows}
 use Rattle.round_prop.specs.declared.row.Row.{Row}
-use Rattle.round_prop.proofs.Follow.{names_of-clauses_without, clauses_of_rows-without, filter-reverse}
+use Rattle.round_prop.proofs.Follow.{clauses_of_rows-without, filter-reverse}
 use Rattle.round_prop.proofs.Rising.{rising-filter}
 use Rattle.round_prop.proofs.rounds.Rounds.detach.Goals as goal
 use Rattle.round_prop.proofs.rounds.Rounds.detach.Goals.{After-retain-2}
@@ -28,9 +29,8 @@ kept_fresh c =
 pub invariant_of-self : goal.invariant_of-self
 invariant_of-self c = record {
   rising =
-      subst (λ clauses. AreRising (names_of clauses)) (sym (kept c))
-      (subst AreRising (sym (names_of-clauses_without c.args.names.now (clauses_of_rows c.self.inside.rows.items)))
-      (rising-filter (λ (name : Name). not (is_among c.args.names.now name)) (names_of (clauses_of_rows c.self.inside.rows.items)) c.self.invariant.rising));
+      subst (AreRisingBy (λ (d : NamedClause). d.name)) (sym (kept c))
+      (rising-filter (λ (d : NamedClause). not (is_among c.args.names.now d.name)) (clauses_of_rows c.self.inside.rows.items) c.self.invariant.rising);
   room_for_all = omega arith;
   seen_are = c.self.invariant.seen_are;
 }
