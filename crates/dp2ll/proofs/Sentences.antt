@@ -14,7 +14,7 @@ use Rattle.dp2ll.specs.declared.ending.Ending.TheVariants.{Answered, Usage, Unre
 use Rattle.dp2ll.specs.Ending.{status_of, complaint_of}
 use Rattle.dp2ll.specs.Complaint.{Tells, TellsFront, Complains}
 use Rattle.dp2ll.specs.Serving.{Desk, RefuseCause, Solves, Serves}
-use Rattle.dp2ll.specs.Headline.{Run, Headline, desk_before, desk_after, OnSolve, EndsBy, IsFaulty, IsSolved, PrintsModel, PrintsProof, IsModel, IsRefutation, IsNeverUnknown, ReadsFile, TellsPart, IsRefusal, IsSilent, KeepsPorts, Sentences}
+use Rattle.dp2ll.specs.Headline.{Run, Headline, desk_before, desk_after, OnSolve, EndsBy, IsFaulty, IsSolved, PrintsModel, PrintsProof, IsModel, IsRefutation, IsNeverUnknown, ReadsFile, WantsMemory, IsRefusal, IsSilent, KeepsPorts, Sentences}
 use Rattle.dp2ll.proofs.Statuses.{at_ten, at_twenty, at_seven, at_one, at_two, at_three, at_four, never_zero}
 use Rattle.dp2ll.proofs.Whole.{read_told}
 use Rattle.dp2ll.proofs.Ports.{served_texts, silent_run, unlogged}
@@ -158,18 +158,18 @@ unwritten_of : (run : Run) (h : Headline run) → Tells (complaint_of h.how) (ru
 unwritten_of run h tells (inl same) = inl (ends_by run h (Unwritten writing.LogFault) same tells (λ refused. refused))
 unwritten_of run h tells (inr same) = inr (ends_by run h (Unwritten writing.AnswerFault) same tells (λ refused. refused))
 
--- what a complaint leaves on its port is that complaint, or a front of it
-told_part : (complaint : Option (List ℕ)) (own status : ℕ) (before after : PortTold) → Complains complaint own before after status
-    → Tells complaint before after ⊎ TellsFront complaint before after
-told_part complaint own status before after (inl (is, tells)) = inl tells
-told_part complaint own status before after (inr (five, front)) = inr front
+-- a complaint at status 5 is that of want of memory, or a front of another
+five_part : (complaint : Option (List ℕ)) (own status : ℕ) (before after : PortTold) → status ≡ 5 → Complains complaint own before after status
+    → ((own ≡ 5) × Tells complaint before after) ⊎ TellsFront complaint before after
+five_part complaint own status before after five (inl (is, tells)) = inl (sym is ∙ five, tells)
+five_part complaint own status before after five (inr (same, front)) = inr front
 
--- what stands on the complaint port is of an ending whose cause holds
-tells_part : (run : Run) → Headline run → TellsPart run
-tells_part run h = record {
+-- status 5 is want of memory
+memory_of : (run : Run) → Headline run → run.status ≡ 5 → WantsMemory run
+memory_of run h five = record {
   how = h.how;
   cause = h.serves;
-  complaint = told_part (complaint_of h.how) (status_of h.how) run.status (run.before.at Complaint) (run.after.at Complaint) h.complains;
+  complaint = five_part (complaint_of h.how) (status_of h.how) run.status (run.before.at Complaint) (run.after.at Complaint) five h.complains;
 }
 
 -- only the job's file is begun
@@ -189,7 +189,7 @@ refusal_of run h = record {
       let own = own_of run h 3 three (λ e. omega arith) in
       ends_by run h (Unread reading.ReadFault) (at_three h.how own.0) own.1 (λ refused. refused);
   unwritten = λ four. let own = own_of run h 4 four (λ e. omega arith) in unwritten_of run h own.1 (at_four h.how own.0);
-  no_memory = λ five. tells_part run h;
+  no_memory = memory_of run h;
   inputs = inputs_of run.job (desk_before run) (desk_after run) h.how h.serves;
 }
 
@@ -208,7 +208,7 @@ ports_of run h =
       silent = λ silent. silent_run run.job (desk_before run) (desk_after run) h.how
           (silent_own (complaint_of h.how) (status_of h.how) run.status (run.before.at Complaint) (run.after.at Complaint) h.complains silent) h.serves;
       no_log = λ none. unlogged run.job (desk_before run) (desk_after run) none texts;
-      complaint = tells_part run h;
+      complaint = h;
     }
 
 -- all sentences of a run

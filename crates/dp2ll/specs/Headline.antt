@@ -123,11 +123,11 @@ abbrev pub ReadsFile : Option Job → InputsTold → InputsTold → Type 0
 ReadsFile None before after = after ≡ before
 ReadsFile (Some (Solve file log)) before after = BeginsFormula file before after ⊎ (after ≡ before)
 
--- the complaint port holds a front of the complaint of an ending whose cause holds
-pub record TellsPart (run : Run) : Type 0 where
+-- the run ended for want of memory, with its line, or memory was refused to the complaint of another ending whose cause holds
+pub record WantsMemory (run : Run) : Type 0 where
   pub how : Ending
   pub cause : Serves run.job (desk_before run) (desk_after run) how
-  pub complaint : Tells (complaint_of how) (run.before.at Complaint) (run.after.at Complaint)
+  pub complaint : ((status_of how ≡ 5) × Tells (complaint_of how) (run.before.at Complaint) (run.after.at Complaint))
       ⊎ TellsFront (complaint_of how) (run.before.at Complaint) (run.after.at Complaint)
 
 -- statuses 2 to 5 come only by their causes, with the complaint of that cause, and whatever comes, only the job's file is begun
@@ -135,7 +135,7 @@ pub record IsRefusal (run : Run) : Type 0 where
   pub no_formula : run.status ≡ 2 → (fault : CnfFault) × EndsBy run (Unread (reading.NoFormula fault))
   pub unread : run.status ≡ 3 → EndsBy run (Unread reading.ReadFault)
   pub unwritten : run.status ≡ 4 → EndsBy run (Unwritten writing.LogFault) ⊎ EndsBy run (Unwritten writing.AnswerFault)
-  pub no_memory : run.status ≡ 5 → TellsPart run
+  pub no_memory : run.status ≡ 5 → WantsMemory run
   pub inputs : ReadsFile run.job run.inputs_before run.inputs_after
 
 -- the file is this formula, and of its own texts a front of the log stands and nothing of the answer, or the whole log and a front of the answer
@@ -155,13 +155,13 @@ HasNoLog (Some (Solve file (Some name))) = ⊥
 abbrev pub IsSilent : ℕ → Type 0
 IsSilent status = (status ≡ 1) ⊎ (status ≡ 2) ⊎ (status ≡ 3) ⊎ (status ≡ 7)
 
--- what stands on the ports at every return
+-- what stands on the ports at every return: on log and answer the file's own texts, and the complaint of how the run ended
 pub record KeepsPorts (run : Run) : Type 0 where
   pub texts : ((desk_after run).page ≡ (desk_before run).page)
       ⊎ OnSolve run.job (λ file log. WritesOwn file log (desk_before run) (desk_after run))
   pub silent : IsSilent run.status → (desk_after run).page ≡ (desk_before run).page
   pub no_log : HasNoLog run.job → log_told run.after ≡ log_told run.before
-  pub complaint : TellsPart run
+  pub complaint : Headline run
 
 -- no call on log or answer failed
 pub record IsCalm (run : Run) : Type 0 where
