@@ -1,6 +1,6 @@
 -- Counts of the flagged entries that are still to be met.
-use Rattle.std.proofs.Common.{◌≡◌, ℕ, ◌==◌, ◌+◌, ◌≤◌, ◌<◌, Bool, true, false, cond, ◌&&◌, ◌||◌, List, [], ◌∷◌, length, reverse, refl, ap, ◌∙◌, sym, subst, arith}
-use Rattle.std.specs.Prelude.{Option, Some, nat_lt, slice_get}
+use Rattle.std.proofs.Common.{◌≡◌, ℕ, ◌==◌, ◌+◌, ◌≤◌, ◌<◌, Bool, true, false, cond, ◌&&◌, ◌||◌, List, [], ◌∷◌, length, refl, ap, ◌∙◌, sym, subst, arith}
+use Rattle.std.specs.Prelude.{Option, Some, nat_lt}
 use Rattle.std.proofs.lemmas.Bool.{lt-ltb, eqb-true, eqb-false, eq-eqb, ne_eqb, cond-true, cond-false}
 use Rattle.std.proofs.lemmas.List.Sums.{sum_by-cons, count_by-le-length}
 use Rattle.lit_base.specs.declared.trail.Entry.{Entry}
@@ -9,10 +9,10 @@ use Rattle.lit_base.specs.Literal.{Literal}
 use Rattle.lit_base.specs.Trail.{level_of, is_free}
 use Rattle.lit_base.specs.Fits.{HasDistinctVariables}
 use Rattle.lit_base.specs.Analysis.{Trace, is_marked, is_resolved, is_other_left, settle, touch, trace}
-use Rattle.first_uip.specs.Marks.{is_flagged, AreFlagsOf, flagged_count, any_level, this_level, one_if, IsCounted}
-use Rattle.first_uip.specs.Places.{before}
+use Rattle.first_uip.specs.Marks.{is_flagged, AreFlagsOf, flagged_count, any_level, this_level, one_if, AreListed, IsCounted, AreClear}
 use Rattle.first_uip.specs.declared.marks.Marks.{Marks}
-use Rattle.first_uip.proofs.Placed.{before_next, level_of-free}
+use Rattle.first_uip.proofs.Placed.{level_of-free}
+use Rattle.first_uip.proofs.Listed.{listed_clear, listed_same}
 
 -- one where both tests pass
 abbrev one_where : Bool → Bool → ℕ
@@ -76,84 +76,74 @@ flagged_count-more test flags after v (e ∷ older) distinct one unset =
         let as_before : one_for test after e ≡ one_for test flags e = ap (one_where (test e.level)) (one e.lit.variable ∙ ap (λ b. b || is_flagged flags e.lit.variable) other) in
         omega (arith, flagged_count-cons test after e older, flagged_count-cons test flags e older, rest)
 
--- marks without flags, with no counts
-pub counted_clear : (level : ℕ) (rest : List Entry) (m : Marks) → ((v : ℕ) → is_flagged m.flags.items v ≡ false) → m.pending ≡ 0 → m.left ≡ 0 → IsCounted level rest m
-counted_clear level rest m clear pending left = record {
-  all = pending ∙ sym (flagged_count-clear any_level m.flags.items rest clear);
-  of_level = left ∙ sym (flagged_count-clear (this_level level) m.flags.items rest clear);
+-- nothing is counted where nothing is marked
+pub counted_clear : (n level : ℕ) (rest : List Entry) (m : Marks) → AreClear n m → IsCounted level rest m
+counted_clear n level rest m clear = record {
+  all = clear.pending ∙ sym (flagged_count-clear any_level m.flags.items rest clear.unset);
+  of_level = clear.left ∙ sym (flagged_count-clear (this_level level) m.flags.items rest clear.unset);
+  listed = listed_clear n m clear;
 }
 
 -- marks with one flag more, and one more in the counts where its entry is among these
 pub counted_more : (level v : ℕ) (rest : List Entry) (m after : Marks) → HasDistinctVariables rest → ((w : ℕ) → is_flagged after.flags.items w ≡ ((v == w) || is_flagged m.flags.items w)) →
-    is_flagged m.flags.items v ≡ false → after.pending ≡ m.pending + one_if any_level (level_of rest v) → after.left ≡ m.left + one_if (this_level level) (level_of rest v) →
+    is_flagged m.flags.items v ≡ false → after.pending ≡ m.pending + one_if any_level (level_of rest v) → after.left ≡ m.left + one_if (this_level level) (level_of rest v) → AreListed after →
     IsCounted level rest m → IsCounted level rest after
-counted_more level v rest m after distinct one unset pending left counted = record {
+counted_more level v rest m after distinct one unset pending left listed counted = record {
   all = omega (arith, pending, counted.all, flagged_count-more any_level m.flags.items after.flags.items v rest distinct one unset);
   of_level = omega (arith, left, counted.of_level, flagged_count-more (this_level level) m.flags.items after.flags.items v rest distinct one unset);
+  listed = listed;
 }
 
 -- what a test of the flag says of the entry
 pub flag_at : (flags : List Bool) (e : Entry) (v : ℕ) (answer is : Bool) → v ≡ e.lit.variable → answer ≡ is_flagged flags v → answer ≡ is → is_flagged flags e.lit.variable ≡ is
 flag_at flags e v answer is same tested known = ap (is_flagged flags) (sym same) ∙ (sym tested ∙ known)
 
--- the counts before the next place, of the entry at this one and the older ones
-counted_next : (level place : ℕ) (trail : List Entry) (e : Entry) (m : Marks) → slice_get (reverse trail) place ≡ Some e → IsCounted level (before (place + 1) trail) m →
-    IsCounted level (e ∷ before place trail) m
-counted_next level place trail e m there counted = subst (λ rest. IsCounted level rest m) (before_next trail place e there) counted
-
 -- an entry without a flag doesn't count
-pub counted_passed : (level place : ℕ) (trail : List Entry) (e : Entry) (m : Marks) → slice_get (reverse trail) place ≡ Some e → is_flagged m.flags.items e.lit.variable ≡ false →
-    IsCounted level (before (place + 1) trail) m → IsCounted level (before place trail) m
-counted_passed level place trail e m there unset counted =
-    let next = counted_next level place trail e m there counted in
-    let older = before place trail in
-    record {
-      all = omega (arith, next.all, flagged_count-cons any_level m.flags.items e older, one_where-false true (is_flagged m.flags.items e.lit.variable) unset);
-      of_level = omega (
-        arith,
-        next.of_level,
-        flagged_count-cons (this_level level) m.flags.items e older,
-        one_where-false (this_level level e.level) (is_flagged m.flags.items e.lit.variable) unset,
-      );
-    }
+pub counted_passed : (level : ℕ) (e : Entry) (older : List Entry) (m : Marks) → is_flagged m.flags.items e.lit.variable ≡ false → IsCounted level (e ∷ older) m → IsCounted level older m
+counted_passed level e older m unset counted = record {
+  all = omega (arith, counted.all, flagged_count-cons any_level m.flags.items e older, one_where-false true (is_flagged m.flags.items e.lit.variable) unset);
+  of_level = omega (
+    arith,
+    counted.of_level,
+    flagged_count-cons (this_level level) m.flags.items e older,
+    one_where-false (this_level level e.level) (is_flagged m.flags.items e.lit.variable) unset,
+  );
+  listed = counted.listed;
+}
 
 -- a flagged entry counts, and where it is of the level it counts there
-pub counted_some : (level place : ℕ) (trail : List Entry) (e : Entry) (m : Marks) → slice_get (reverse trail) place ≡ Some e → is_flagged m.flags.items e.lit.variable ≡ true →
-    IsCounted level (before (place + 1) trail) m → (0 < m.pending) × (e.level ≡ level → 0 < m.left)
-counted_some level place trail e m there is_set counted =
-    let next = counted_next level place trail e m there counted in
-    let older = before place trail in (
-      omega (arith, next.all, flagged_count-cons any_level m.flags.items e older, one_where-true true (is_flagged m.flags.items e.lit.variable) is_set),
-      λ here. omega (
-        arith,
-        next.of_level,
-        flagged_count-cons (this_level level) m.flags.items e older,
-        one_where-true (this_level level e.level) (is_flagged m.flags.items e.lit.variable) is_set,
-        cond-true {A = ℕ} (e.level == level) 1 0 (eq-eqb e.level level here),
-      ),
-    )
+pub counted_some : (level : ℕ) (e : Entry) (older : List Entry) (m : Marks) → is_flagged m.flags.items e.lit.variable ≡ true → IsCounted level (e ∷ older) m →
+    (0 < m.pending) × (e.level ≡ level → 0 < m.left)
+counted_some level e older m is_set counted = (
+  omega (arith, counted.all, flagged_count-cons any_level m.flags.items e older, one_where-true true (is_flagged m.flags.items e.lit.variable) is_set),
+  λ here. omega (
+    arith,
+    counted.of_level,
+    flagged_count-cons (this_level level) m.flags.items e older,
+    one_where-true (this_level level e.level) (is_flagged m.flags.items e.lit.variable) is_set,
+    cond-true {A = ℕ} (e.level == level) 1 0 (eq-eqb e.level level here),
+  ),
+)
 
 -- once it is taken out of the counts, they are those of the older entries
-pub counted_met : (level place : ℕ) (trail : List Entry) (e : Entry) (m after : Marks) → slice_get (reverse trail) place ≡ Some e → is_flagged m.flags.items e.lit.variable ≡ true →
-    after.flags ≡ m.flags → after.pending + 1 ≡ m.pending → after.left + cond (e.level == level) 1 0 ≡ m.left → IsCounted level (before (place + 1) trail) m →
-    IsCounted level (before place trail) after
-counted_met level place trail e m after there is_set same pending left counted =
-    let next = counted_next level place trail e m there counted in
-    let older = before place trail in
+pub counted_met : (level : ℕ) (e : Entry) (older : List Entry) (m after : Marks) → is_flagged m.flags.items e.lit.variable ≡ true → after.flags ≡ m.flags → after.marked ≡ m.marked →
+    after.pending + 1 ≡ m.pending → after.left + cond (e.level == level) 1 0 ≡ m.left → IsCounted level (e ∷ older) m → IsCounted level older after
+counted_met level e older m after is_set same marked pending left counted =
     let items = ap (λ flags. flags.items) (sym same) in
     let all : after.pending ≡ flagged_count any_level m.flags.items older =
-    omega (arith, pending, next.all, flagged_count-cons any_level m.flags.items e older, one_where-true true (is_flagged m.flags.items e.lit.variable) is_set) in
+    omega (arith, pending, counted.all, flagged_count-cons any_level m.flags.items e older, one_where-true true (is_flagged m.flags.items e.lit.variable) is_set) in
     let of_level : after.left ≡ flagged_count (this_level level) m.flags.items older =
     omega (
       arith,
       left,
-      next.of_level,
+      counted.of_level,
       flagged_count-cons (this_level level) m.flags.items e older,
       one_where-true (this_level level e.level) (is_flagged m.flags.items e.lit.variable) is_set,
     ) in
     record {
       all = all ∙ ap (λ flags. flagged_count any_level flags older) items;
       of_level = of_level ∙ ap (λ flags. flagged_count (this_level level) flags older) items;
+      listed = listed_same m after same marked counted.listed;
     }
 
 -- whether another is left is whether the count is above none

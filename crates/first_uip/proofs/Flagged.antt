@@ -8,7 +8,7 @@ use Rattle.lit_base.specs.Analysis.{is_marked}
 use Rattle.first_uip.specs.Marks.{is_flagged, AreFlagsOf}
 
 -- the order of tests does not matter
-either_first : (a b c : Bool) → (a || (b || c)) ≡ (b || (a || c))
+pub either_first : (a b c : Bool) → (a || (b || c)) ≡ (b || (a || c))
 either_first true true c = refl
 either_first true false c = refl
 either_first false b c = refl

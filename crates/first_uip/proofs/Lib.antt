@@ -1,6 +1,6 @@
 pub mod Placed
 pub mod Flagged
+pub mod Listed
 pub mod Counted
-pub mod Turned
 pub mod Stepped
 pub mod Reading

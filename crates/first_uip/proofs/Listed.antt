@@ -1,7 +1,7 @@
 -- The list of the marked variables, and the room that it has.
-use Rattle.std.proofs.Common.{◌≡◌, ℕ, suc, zero, ◌==◌, ◌+◌, ◌≤◌, ◌<◌, Bool, true, false, cond, ◌||◌, List, [], ◌∷◌, ◌++◌, length, set, drop, get_or, refl, ap, ◌∙◌, sym, subst, inl, inr, arith}
+use Rattle.std.proofs.Common.{◌≡◌, ℕ, suc, zero, ◌==◌, ◌+◌, ◌≤◌, ◌<◌, Bool, true, false, cond, ◌||◌, List, [], ◌∷◌, ◌++◌, length, set, drop, get_or, refl, ap, ◌∙◌, sym, inl, inr, arith}
 use Rattle.std.specs.Prelude.{count_by, vec_len, vec_capacity}
-use Rattle.std.proofs.lemmas.Bool.{cases_eq, cases_lt, cases_Bool, eq-eqb, ne_eqb, both_ways, or_right, or_cases}
+use Rattle.std.proofs.lemmas.Bool.{cases_eq, cases_lt, cases_Bool, eq-eqb, ne_eqb, both_ways, or_right}
 use Rattle.std.proofs.lemmas.List.{drop_more, drop_all, get_or-set_same, get_or-set_other, get_or_past, length-set}
 use Rattle.std.proofs.lemmas.List.Sums.{sum_by-set, count_by-le-length}
 use Rattle.lit_base.specs.Analysis.{is_marked}
@@ -69,7 +69,7 @@ pub listed_within : (marked : List ℕ) (flags : List Bool) (index d : ℕ) → 
 listed_within marked flags index d are within =
     let v = get_or marked index d in
     let set_there : is_flagged flags v ≡ true = are v ∙ among marked index within in
-    elim (cases_lt v (length flags)) [ | inl low ↦ low | inr high ↦ absurd (both_ways (is_flagged flags v) (get_or_past flags v false high) set_there) ]
+    elim (cases_lt v (length flags)) [ inl low ↦ low | inr high ↦ absurd (both_ways (is_flagged flags v) (get_or_past flags v false high) set_there) ]
   where
     among : (marked : List ℕ) (index : ℕ) → index < length marked → is_marked marked (get_or marked index d) ≡ true
     among [] index below = absurd (omega arith)

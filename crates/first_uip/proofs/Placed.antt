@@ -4,12 +4,11 @@ use Rattle.std.specs.Prelude.{Option, Some, None, is_none, nat_lt, slice_get}
 use Rattle.std.specs.List.{All}
 use Rattle.std.proofs.lemmas.Bool.{eqb-true, cases_lt, cond-true, cond-false, lt-ltb, le-ltb}
 use Rattle.std.proofs.lemmas.List.{drop_more, get_or-reverse, length-reverse, length-drop}
-use Rattle.std.proofs.lemmas.Option.{slice_get_within, get_or_from_slice_get, same_Some}
+use Rattle.std.proofs.lemmas.Option.{slice_get_within, get_or_from_slice_get}
 use Rattle.lit_base.specs.declared.trail.Entry.{Entry}
 use Rattle.lit_base.specs.Trail.{sign_of, level_of, is_free}
 use Rattle.lit_base.specs.Fits.{HasDistinctVariables}
 use Rattle.trail_book.specs.TrailState.{place_of}
-use Rattle.trail_book.proofs.Places.{place_of-entry}
 use Rattle.first_uip.specs.Places.{before}
 
 -- the entry at a place, among those that stand newest first
@@ -103,17 +102,11 @@ level_of-before place v (e ∷ older) distinct =
         ∙ (rest ∙ (ap (λ o. level_where place o (level_of older v)) (place_of-free v older free) ∙ sym (cond-false (nat_lt (length older) place) (Some e.level) None (le-ltb (length older) place low))))
     by_place (inr low) false other rest = ap (λ t. level_of t v) (before_older e older place low) ∙ rest
 
--- the level of the entry at a place that is below
-pub level_below : (place at v : ℕ) (trail : List Entry) (e : Entry) → HasDistinctVariables trail → Some at ≡ place_of trail v → at < place → slice_get (reverse trail) at ≡ Some e →
-    Some e.level ≡ level_of (before place trail) v
-level_below place at v trail e distinct is low there =
-    let found = place_of-entry trail v at (sym is) in
-    let same : e ≡ found.entry = same_Some e found.entry (sym there ∙ found.stands) in
-    ap (λ (x : Entry). Some x.level) same
-    ∙ (sym found.level
-    ∙ (sym (cond-true (nat_lt at place) (level_of trail v) None (lt-ltb at place low))
-    ∙ (ap (λ o. level_where place o (level_of trail v)) is
-    ∙ sym (level_of-before place v trail distinct))))
+-- the level of a variable whose place is below
+pub level_below : (place at v : ℕ) (trail : List Entry) → HasDistinctVariables trail → Some at ≡ place_of trail v → at < place → level_of trail v ≡ level_of (before place trail) v
+level_below place at v trail distinct is low =
+    sym (cond-true (nat_lt at place) (level_of trail v) None (lt-ltb at place low))
+    ∙ (ap (λ o. level_where place o (level_of trail v)) is ∙ sym (level_of-before place v trail distinct))
 
 -- none, where the place isn't below
 pub level_above : (place at v : ℕ) (trail : List Entry) → HasDistinctVariables trail → Some at ≡ place_of trail v → place ≤ at → None ≡ level_of (before place trail) v

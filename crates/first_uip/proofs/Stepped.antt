@@ -1,6 +1,6 @@
 -- A step of the walk, against that of the definition.
-use Rattle.std.proofs.Common.{◌≡◌, ℕ, ◌==◌, ◌+◌, ◌-◌, ◌≤◌, ◌<◌, Bool, true, false, ◌&&◌, ◌||◌, List, [], ◌∷◌, length, drop, reverse, refl, ap, ◌∙◌, sym, subst, arith}
-use Rattle.std.specs.Prelude.{Option, Some, nat_lt, slice_get}
+use Rattle.std.proofs.Common.{◌≡◌, ℕ, ◌==◌, ◌+◌, ◌-◌, ◌≤◌, ◌<◌, Bool, true, false, ◌&&◌, ◌||◌, List, [], ◌∷◌, length, drop, refl, ap, ◌∙◌, sym, subst, arith}
+use Rattle.std.specs.Prelude.{Option, nat_lt}
 use Rattle.std.proofs.lemmas.Bool.{cond-true, cond-false}
 use Rattle.std.proofs.lemmas.List.{drop-drop}
 use Rattle.lit_base.specs.Literal.{Literal}
@@ -12,25 +12,24 @@ use Rattle.first_uip.specs.Places.{before}
 use Rattle.first_uip.specs.Walked.{Traces, first_step}
 use Rattle.first_uip.specs.declared.walk.Walk.{Walk}
 use Rattle.first_uip.specs.declared.marks.Marks.{Marks}
-use Rattle.first_uip.proofs.Placed.{before_next}
 use Rattle.first_uip.proofs.Counted.{left_by_count, trace_done}
 
 -- an entry whose flag isn't set is passed over
-pub step_unmarked : (look : Name → Option (List Literal)) (level place : ℕ) (trail : List Entry) (e : Entry) (flags : List Bool) (t : Trace) → slice_get (reverse trail) place ≡ Some e →
-    AreFlagsOf t.marked flags → is_flagged flags e.lit.variable ≡ false → first_step look level (before (place + 1) trail) t ≡ t
-step_unmarked look level place trail e flags t is are unset =
-    ap (λ rest. first_step look level rest t) (before_next trail place e is)
-    ∙ cond-false (is_marked t.marked e.lit.variable) (settle look (is_resolved look level t.marked e (before place trail)) e (touch e t)) t (sym (are e.lit.variable) ∙ unset)
+pub step_unmarked : (look : Name → Option (List Literal)) (level : ℕ) (rest older : List Entry) (e : Entry) (flags : List Bool) (t : Trace) → rest ≡ e ∷ older → AreFlagsOf t.marked flags →
+    is_flagged flags e.lit.variable ≡ false → first_step look level rest t ≡ t
+step_unmarked look level rest older e flags t is are unset =
+    ap (λ es. first_step look level es t) is
+    ∙ cond-false (is_marked t.marked e.lit.variable) (settle look (is_resolved look level t.marked e older) e (touch e t)) t (sym (are e.lit.variable) ∙ unset)
 
 -- one whose flag is set is resolved or stays
-pub step_marked : (look : Name → Option (List Literal)) (level place left : ℕ) (trail : List Entry) (e : Entry) (flags : List Bool) (resolved : Bool) (t : Trace) →
-    slice_get (reverse trail) place ≡ Some e → AreFlagsOf t.marked flags → is_flagged flags e.lit.variable ≡ true → left ≡ flagged_count (this_level level) flags (before place trail) →
-    resolved ≡ ((e.level == 0) || ((e.level == level) && nat_lt 0 left)) → first_step look level (before (place + 1) trail) t ≡ settle look resolved e (touch e t)
-step_marked look level place left trail e flags resolved t is are is_set left_is resolved_is =
-    ap (λ rest. first_step look level rest t) (before_next trail place e is)
-    ∙ (cond-true (is_marked t.marked e.lit.variable) (settle look (is_resolved look level t.marked e (before place trail)) e (touch e t)) t (sym (are e.lit.variable) ∙ is_set)
+pub step_marked : (look : Name → Option (List Literal)) (level left : ℕ) (rest older : List Entry) (e : Entry) (flags : List Bool) (resolved : Bool) (t : Trace) → rest ≡ e ∷ older →
+    AreFlagsOf t.marked flags → is_flagged flags e.lit.variable ≡ true → left ≡ flagged_count (this_level level) flags older →
+    resolved ≡ ((e.level == 0) || ((e.level == level) && nat_lt 0 left)) → first_step look level rest t ≡ settle look resolved e (touch e t)
+step_marked look level left rest older e flags resolved t is are is_set left_is resolved_is =
+    ap (λ es. first_step look level es t) is
+    ∙ (cond-true (is_marked t.marked e.lit.variable) (settle look (is_resolved look level t.marked e older) e (touch e t)) t (sym (are e.lit.variable) ∙ is_set)
     ∙ ap (λ b. settle look b e (touch e t))
-    (sym (resolved_is ∙ ap (λ b. (e.level == 0) || ((e.level == level) && b)) (ap (λ n. nat_lt 0 n) left_is ∙ left_by_count level flags t.marked (before place trail) are))))
+    (sym (resolved_is ∙ ap (λ b. (e.level == 0) || ((e.level == level) && b)) (ap (λ n. nat_lt 0 n) left_is ∙ left_by_count level flags t.marked older are))))
 
 -- counts of which the trace knows nothing
 pub traces_met : (level : ℕ) (walk : Walk) (after : Marks) (t : Trace) → after.flags ≡ walk.marks.flags → Traces level walk t → Traces level (record walk { marks = after }) t

@@ -24,7 +24,7 @@ first_step look level (e ∷ older) t = trace_step look level e older t
 -- its hints stand the other way round
 pub record Traces (level : ℕ) (walk : Walk) (t : Trace) : Type 0 where
   pub flagged : AreFlagsOf t.marked walk.marks.flags.items
-  pub lemma : walk.lits ≡ map (λ e. negation e.lit) t.stays
+  pub lemma : walk.lits.items ≡ map (λ e. negation e.lit) t.stays
   pub jump : walk.back ≡ back_of level t.stays
-  pub turned : walk.hints ≡ reverse t.hints
-  pub met : walk.touched ≡ t.touched
+  pub turned : walk.hints.items ≡ reverse t.hints
+  pub met : walk.touched.items ≡ t.touched

@@ -2,7 +2,7 @@
 //! (Marques-Silva and Sakallah 1996; Zhang, Madigan, Moskewicz and Malik 2001).
 #![tactic(auto)]
 
-pub use analysis::analyse;
+pub use analysis::{Analyser, analyse};
 
 mod analysis;
 mod marks;

@@ -1,4 +1,4 @@
-ghost use Rattle.std.specs.Prelude.{◌≡◌, ◌+◌, ◌==◌, ◌≤◌, ◌<◌, ◌&&◌, ◌||◌, ℕ, List, ◌++◌, false, length, map, nat_lt, replicate, vec_len, if◌then◌else◌, IfOk};
+ghost use Rattle.std.specs.Prelude.{◌≡◌, ◌+◌, ◌==◌, ◌≤◌, ◌<◌, ◌&&◌, ◌||◌, ℕ, List, ◌∷◌, ◌++◌, true, false, length, map, nat_lt, replicate, vec_len, vec_capacity, if◌then◌else◌, IfOk};
 ghost use Rattle.std.specs.List.{All};
 ghost use Rattle.lit_base.specs.Trail.{level_of};
 ghost use Rattle.lit_base.specs.Fits.{HasDistinctVariables};
@@ -12,26 +12,28 @@ use trail_book::Trail;
 
 /// Which variables are marked, and how many marked entries are still to be met.
 ///
-/// `flags` is by variable; `pending` counts the marked entries that are still to be met, and `left` those of the
-/// current level among them.
+/// `flags` is by variable, and `marked` lists the variables whose flags are set, so that no others are cleared (as in
+/// MiniSat: Eén and Sörensson 2003). `pending` counts the marked entries that are still to be met, and `left` those of
+/// the current level among them.
 #[derive(Debug, Drop)]
 pub(crate) struct Marks {
     pub(crate) flags: Vec<bool>,
+    pub(crate) marked: Vec<u32>,
     pub(crate) pending: u32,
     pub(crate) left: u32,
 }
 
 impl Marks {
-    ghost use Rattle.first_uip.specs.Marks.{is_flagged, AreFlagsOf, IsCounted, any_level, this_level, one_if};
+    ghost use Rattle.first_uip.specs.Marks.{is_flagged, AreFlagsOf, AreClear, IsCounted, any_level, this_level, one_if};
 
     /// No variable is marked, of so many.
     pub(crate) fn new(alloc: Global, variables: u32) -> Result<Marks, NoMemory>
-        ensures room { IfOk result (λ marks. vec_len marks.flags ≡ variables + 1) }
-        ensures clear { IfOk result (λ marks. (v : ℕ) → is_flagged marks.flags.items v ≡ false) }
-        ensures counted { IfOk result (λ marks. (level : ℕ) (rest : List Entry) → IsCounted level rest marks) }
+        ensures { IfOk result (λ marks. AreClear (variables + 1) marks) }
     {
+        let count = variables as usize + 1;
         Ok(Marks {
-            flags: no_flags(alloc, variables as usize + 1)?,
+            flags: no_flags(alloc, count)?,
+            marked: Vec::with_capacity(alloc, count)?,
             pending: 0,
             left: 0,
         })
@@ -55,11 +57,10 @@ impl Marks {
 
     /// Takes a marked entry that is met out of the counts.
     pub(crate) fn meet(&mut self, level: u32, entry: &Entry)
-        requires pending { 0 < self.old.pending }
-        requires left { entry.now.level ≡ level → 0 < self.old.left }
+        requires marked { is_flagged self.old.flags.items entry.now.lit.variable ≡ true }
+        requires counted { (older : List Entry) × IsCounted level (entry.now ∷ older) self.old }
         ensures flags { self.new.flags ≡ self.old.flags }
-        ensures pending { self.new.pending + 1 ≡ self.old.pending }
-        ensures left { self.new.left + (if entry.now.level == level then 1 else 0) ≡ self.old.left }
+        ensures counted { (older : List Entry) → IsCounted level (entry.now ∷ older) self.old → IsCounted level older self.new }
     {
         self.pending -= 1;
         if entry.level == level {
@@ -72,6 +73,7 @@ impl Marks {
         requires pending { self.old.pending ≤ 1000000 }
         requires left { self.old.left ≤ 1000000 }
         ensures flags { self.new.flags ≡ self.old.flags }
+        ensures marked { self.new.marked ≡ self.old.marked }
         ensures pending { self.new.pending ≡ self.old.pending + one_if any_level found }
         ensures left { self.new.left ≡ self.old.left + one_if (this_level level) found }
     {
@@ -97,6 +99,7 @@ impl Marks {
             return;
         }
         self.flags[var as usize] = true;
+        self.marked.push_reserved(var);
         self.count(level, level_before(trail, place, var));
     }
 
@@ -114,11 +117,36 @@ impl Marks {
             self.mark(trail, level, place, lit.var());
         }
     }
+
+    /// Clears what is marked.
+    pub(crate) fn clear(&mut self)
+        requires { (level : ℕ) × (rest : List Entry) × IsCounted level rest self.old }
+        ensures { AreClear (vec_len self.old.flags) self.new }
+    {
+        self.clear_flags();
+        self.marked.clear();
+        self.pending = 0;
+        self.left = 0;
+    }
+
+    /// Clears the flags of the marked variables, and so all flags.
+    fn clear_flags(&mut self)
+        requires { AreFlagsOf self.old.marked.items self.old.flags.items }
+        ensures clear { (v : ℕ) → is_flagged self.new.flags.items v ≡ false }
+        ensures len { vec_len self.new.flags ≡ vec_len self.old.flags }
+        ensures marked { self.new.marked ≡ self.old.marked }
+    {
+        for index in 0..self.marked.len() {
+            let var = self.marked[index];
+            self.flags[var as usize] = false;
+        }
+    }
 }
 
 /// A flag for each of so many variables, none of them set.
 fn no_flags(alloc: Global, count: usize) -> Result<Vec<bool>, NoMemory>
-    ensures { IfOk result (λ flags. flags.items ≡ replicate count false) }
+    ensures items { IfOk result (λ flags. flags.items ≡ replicate count false) }
+    ensures len { IfOk result (λ flags. vec_len flags ≡ count) }
 {
     Ok(vec![in alloc; false; count]?)
 }
@@ -128,8 +156,8 @@ fn level_before(trail: &Trail, place: usize, var: u32) -> Option<u32>
     requires { HasDistinctVariables trail.now.entries }
     ensures { result ≡ level_of (before place trail.now.entries) var }
 {
-    match trail.place(var) {
-        Some(at) if at < place => Some(trail.entry(at).level),
-        _ => None,
+    if trail.place(var)? < place {
+        return trail.level_of(var);
     }
+    None
 }

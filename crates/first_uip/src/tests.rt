@@ -1,11 +1,13 @@
-ghost use Rattle.std.specs.Prelude.{◌≡◌, ◌≤◌, [], ◌∷◌, None, Some, IfOk};
-ghost use Rattle.lit_base.specs.Held.{clauses_of};
+ghost use Rattle.std.specs.Prelude.{◌≡◌, ◌≤◌, [], ◌∷◌, length, None, Some, IfOk, OnOk};
+ghost use Rattle.lit_base.specs.Distinct.{distinct};
+ghost use Rattle.lit_base.specs.Named.{lits_at};
+ghost use Rattle.lit_base.specs.Held.{clauses_of, with_clause};
 ghost use Rattle.lit_base.specs.Rounds.{original, named_from};
 ghost use Rattle.lit_base.specs.Examples.{plain, negated, forked_trail};
 
-use crate::analyse;
+use crate::{Analyser, analyse};
 use clause_pool::Pool;
-use lit_base::{Lesson, Lit, Name, NoMemory};
+use lit_base::{Clause, Lesson, Lit, Name, NoMemory};
 use std::alloc::Global;
 use std::process::Abort;
 use std::test::Fail;
@@ -29,51 +31,51 @@ fn no(variable: u32) -> Lit
     Lit::of(variable, false)
 }
 
-/// The name of the original at this index.
-fn name(index: u32) -> Name
-    ensures { result ≡ original index }
+/// Adds the clause of these literals under the name of an original.
+fn add(alloc: Global, pool: &mut Pool, index: u32, lits: &[Lit]) -> Result<(), NoMemory>
+    requires { lits_at (clauses_of pool.old) (original index) ≡ None }
+    ensures { OnOk result (pool.new ≡ with_clause (record { name = original index; lits = distinct lits.now; uses = 0 }) pool.old) }
 {
-    Name {
-        period: 0,
-        core: 0,
-        index,
-    }
+    let clause = Clause::of(alloc, lits)?;
+    pool.add(Name::original(index), clause.lits())
 }
 
 /// The pool of three clauses, named as originals.
 fn pool_of(alloc: Global, first: &[Lit], second: &[Lit], third: &[Lit]) -> Result<Pool, NoMemory>
-    ensures { IfOk result (λ pool. clauses_of pool ≡ named_from 0 (first.now ∷ second.now ∷ third.now ∷ [])) }
+    ensures { IfOk result (λ pool. clauses_of pool ≡ named_from 0 (distinct first.now ∷ distinct second.now ∷ distinct third.now ∷ [])) }
 {
     let mut pool = Pool::new(alloc);
-    pool.add(name(0), first)?;
-    pool.add(name(1), second)?;
-    pool.add(name(2), third)?;
+    add(alloc, &mut pool, 0, first)?;
+    add(alloc, &mut pool, 1, second)?;
+    add(alloc, &mut pool, 2, third)?;
     Ok(pool)
 }
 
 /// Variable 1 by the first clause, then the decision that 2 is false, then variable 3 by the second clause.
 fn forked_trail(alloc: Global) -> Result<Trail, NoMemory>
-    ensures { IfOk result (λ trail. trail.entries ≡ forked_trail) }
+    ensures entries { IfOk result (λ trail. trail.entries ≡ forked_trail) }
+    ensures saved { IfOk result (λ trail. length trail.saved ≡ 3) }
 {
     let mut trail = Trail::with_room(alloc, 3)?;
-    trail.imply(yes(1), name(0));
+    trail.imply(yes(1), Name::original(0));
     trail.decide(no(2));
-    trail.imply(yes(3), name(1));
+    trail.imply(yes(3), Name::original(1));
     Ok(trail)
 }
 
 /// The decisions that 1 and 2 are false, then variable 3 by the first clause.
 fn two_level_trail(alloc: Global) -> Result<Trail, NoMemory>
-    ensures { IfOk result (λ trail. trail.entries ≡
+    ensures entries { IfOk result (λ trail. trail.entries ≡
         record { lit = plain 3; level = 2; reason = Some (original 0) }
         ∷ record { lit = negated 2; level = 2; reason = None }
         ∷ record { lit = negated 1; level = 1; reason = None }
         ∷ []) }
+    ensures saved { IfOk result (λ trail. length trail.saved ≡ 3) }
 {
     let mut trail = Trail::with_room(alloc, 3)?;
     trail.decide(no(1));
     trail.decide(no(2));
-    trail.imply(yes(3), name(0));
+    trail.imply(yes(3), Name::original(0));
     Ok(trail)
 }
 
@@ -85,8 +87,8 @@ fn root_trail(alloc: Global) -> Result<Trail, NoMemory>
         ∷ []) }
 {
     let mut trail = Trail::with_room(alloc, 2)?;
-    trail.imply(yes(1), name(0));
-    trail.imply(yes(2), name(1));
+    trail.imply(yes(1), Name::original(0));
+    trail.imply(yes(2), Name::original(1));
     Ok(trail)
 }
 
@@ -105,23 +107,53 @@ fn expect(
     assert_eq!(rt; lesson.touched.as_slice(), touched);
 }
 
+/// A conflict at level 1, whose reasons go down to level 0.
+fn expect_forked(rt: &impl Abort, alloc: Global, analyser: &mut Analyser) -> Result<(), NoMemory>
+    requires { analyser.old ≡ 3 }
+    ensures { analyser.new ≡ 3 }
+{
+    let (first, clause, other) = ([yes(1)], [no(1), yes(2), yes(3)], [no(1), yes(2), no(3)]);
+    let pool = pool_of(alloc, &first, &clause, &other)?;
+    let lesson = analyser.analyse(&pool, &forked_trail(alloc)?, Name::original(2))?;
+    let hints = [Name::original(0), Name::original(1), Name::original(2)];
+    expect(rt, &lesson, &[yes(2)], &hints, 0, &[3, 2]);
+    Ok(())
+}
+
+/// A conflict at level 2, with an entry of level 1 that stays.
+fn expect_two_levels(
+    rt: &impl Abort,
+    alloc: Global,
+    analyser: &mut Analyser,
+) -> Result<(), NoMemory>
+    requires { analyser.old ≡ 3 }
+    ensures { analyser.new ≡ 3 }
+{
+    let (clause, other) = ([yes(1), yes(2), yes(3)], [yes(1), yes(2), no(3)]);
+    let pool = pool_of(alloc, &clause, &other, &clause)?;
+    let lesson = analyser.analyse(&pool, &two_level_trail(alloc)?, Name::original(1))?;
+    let hints = [Name::original(0), Name::original(1)];
+    expect(rt, &lesson, &[yes(2), yes(1)], &hints, 1, &[3, 2, 1]);
+    Ok(())
+}
+
+/// A conflict at level 0.
+fn expect_root(rt: &impl Abort, alloc: Global) -> Result<(), NoMemory> {
+    let (first, clause, other) = ([yes(1)], [no(1), yes(2)], [no(2)]);
+    let pool = pool_of(alloc, &first, &clause, &other)?;
+    let lesson = analyse(alloc, &pool, &root_trail(alloc)?, Name::original(2))?;
+    let hints = [Name::original(0), Name::original(1), Name::original(2)];
+    expect(rt, &lesson, &[], &hints, 0, &[]);
+    Ok(())
+}
+
 #[test]
 fn small_conflicts_teach_their_lessons(rt: HostRuntime) -> Result<(), Fail> {
     let alloc = rt.alloc();
-    let (first, clause, other) = ([yes(1)], [no(1), yes(2), yes(3)], [no(1), yes(2), no(3)]);
-    let forked = pool_of(alloc, &first, &clause, &other)?;
-    let lesson = analyse(alloc, &forked, &forked_trail(alloc)?, name(2))?;
-    let hints = [name(0), name(1), name(2)];
-    expect(&rt, &lesson, &[yes(2)], &hints, 0, &[3, 2]);
-
-    let (clause, other) = ([yes(1), yes(2), yes(3)], [yes(1), yes(2), no(3)]);
-    let two_levels = pool_of(alloc, &clause, &other, &clause)?;
-    let lesson = analyse(alloc, &two_levels, &two_level_trail(alloc)?, name(1))?;
-    expect(&rt, &lesson, &[yes(2), yes(1)], &hints[..2], 1, &[3, 2, 1]);
-
-    let (first, clause, other) = ([yes(1)], [no(1), yes(2)], [no(2)]);
-    let roots = pool_of(alloc, &first, &clause, &other)?;
-    let lesson = analyse(alloc, &roots, &root_trail(alloc)?, name(2))?;
-    expect(&rt, &lesson, &[], &hints, 0, &[]);
+    let mut analyser = Analyser::make(alloc, 3)?;
+    expect_forked(&rt, alloc, &mut analyser)?;
+    expect_two_levels(&rt, alloc, &mut analyser)?;
+    expect_forked(&rt, alloc, &mut analyser)?;
+    expect_root(&rt, alloc)?;
     Ok(())
 }

@@ -1,12 +1,15 @@
-use Rattle.std.proofs.Common.{arith}
+use Rattle.std.proofs.Common.{sym, ◌∙◌}
 use Rattle.first_uip.proofs.Placed.{level_below, level_above, level_nowhere}
 use Rattle.first_uip.proofs.marks.level_before.Goals as goal
 
-pub returns-in-Some : goal.returns-in-Some
-returns-in-Some c = level_below c.args.place c.in-Some.at c.args.var c.args.trail.now.entries c.entry.result c.requires c.in-Some.ensures.value c.if-at-place.true c.entry.ensures.value
+pub returns-in_err-place : goal.returns-in_err-place
+returns-in_err-place c =
+    c.from_residual.ensures ∙ level_nowhere c.args.place c.args.var c.args.trail.now.entries c.requires (sym c.in_err-place.was ∙ c.place.ensures.value)
 
-pub returns-in_default : goal.returns-in_default
-returns-in_default c = level_above c.args.place c.in-Some.at c.args.var c.args.trail.now.entries c.requires c.in-Some.ensures.value (omega arith)
+pub returns-then-branch-place : goal.returns-then-branch-place
+returns-then-branch-place c =
+    c.level_of.ensures.value
+    ∙ level_below c.args.place c.in_ok-place.field-0 c.args.var c.args.trail.now.entries c.requires c.in_ok-place.ensures.value c.if-branch-place.true
 
-pub returns-in_default-2 : goal.returns-in_default-2
-returns-in_default-2 c = level_nowhere c.args.place c.args.var c.args.trail.now.entries c.requires c.in_default.ensures.value
+pub returns : goal.returns
+returns c = level_above c.args.place c.in_ok-place.field-0 c.args.var c.args.trail.now.entries c.requires c.in_ok-place.ensures.value c.if-branch-place.false

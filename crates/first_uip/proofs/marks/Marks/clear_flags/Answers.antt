@@ -1,5 +1,5 @@
-use Rattle.std.proofs.Common.{◌≡◌, ◌<◌, length, vec_len, get_or, ap, sym, ◌∙◌, refl, subst, arith, rules}
-use Rattle.first_uip.proofs.Listed.{listed_within, left_more, left_none}
+use Rattle.std.proofs.Common.{◌≡◌, ◌<◌, length, vec_len, get_or, ap, ◌∙◌, refl, arith, rules}
+use Rattle.first_uip.proofs.Listed.{listed_within, left_more}
 use Rattle.first_uip.proofs.marks.Marks.clear_flags.Goals as goal
 
 -- a listed variable has a flag

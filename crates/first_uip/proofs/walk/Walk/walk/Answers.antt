@@ -1,4 +1,4 @@
-use Rattle.std.proofs.Common.{◌≡◌, ◌+◌, ◌≤◌, ◌∷◌, [], length, append-nil, vec_len, vec_capacity, ap, ◌∙◌, sym, subst, arith}
+use Rattle.std.proofs.Common.{◌+◌, ◌∷◌, [], length, append-nil, vec_len, vec_capacity, ap, ◌∙◌, sym, subst, arith}
 use Rattle.lit_base.specs.Named.{lits_at}
 use Rattle.lit_base.specs.Held.{clauses_of}
 use Rattle.lit_base.specs.Analysis.{variables_of, trace, first_trace}
