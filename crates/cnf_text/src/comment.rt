@@ -2,14 +2,13 @@ ghost use Rattle.std.specs.Prelude.{◌≡◌};
 ghost use Rattle.std.specs.List.{position_or_len};
 ghost use Rattle.cnf_text.specs.Pieces.{is_line_feed};
 
+use memchr::memchr;
+
 /// How many bytes stand before the first LF, or how many there are.
 ///
-/// A comment is passed by this search alone: files may be mostly comments, and a step for each byte is slow.
+/// A comment is passed by this search alone, many bytes at a time: some files are mostly comments.
 pub(crate) fn comment_len(bytes: &[u8]) -> usize
     ensures { result ≡ position_or_len is_line_feed bytes.now }
 {
-    bytes
-        .iter()
-        .position(|byte| *byte == b'\n')
-        .unwrap_or(bytes.len())
+    memchr(b'\n', bytes).unwrap_or(bytes.len())
 }

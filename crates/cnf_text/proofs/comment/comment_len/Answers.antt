@@ -1,20 +1,20 @@
-use Rattle.std.proofs.Common.{◌≡◌, ℕ, ◌≤◌, Bool, true, false, not, cond, ltb, length, refl, ap, ◌∙◌, arith, rules, tests, Some, None, unwrap_or}
-use Rattle.std.proofs.lemmas.Iterator.{YieldsList-from_slice}
-use Rattle.std.proofs.lemmas.Iterator.Search.{position_from_yields_List}
-use Rattle.std.proofs.lemmas.List.Sums.{prefix_len-le-length}
-use Rattle.std.proofs.lemmas.Bool.{ltb-false}
+use Rattle.std.proofs.Common.{◌≡◌, ℕ, Bool, true, false, List, length, refl, sym, ◌∙◌, arith, Option, Some, None, unwrap_or}
+use Rattle.std.proofs.lemmas.List.Sums.{position_or_len_is}
 use Rattle.std.specs.List.{position_or_len}
+use Rattle.memchr.specs.Find.{IsFirstByte, is_byte}
 use Rattle.cnf_text.specs.Pieces.{is_line_feed}
 use Rattle.cnf_text.proofs.comment.comment_len.Goals as goal
 
+no_is_false : (b : Bool) → (b ≡ true → ⊥) → b ≡ false
+no_is_false true never = absurd (never refl)
+no_is_false false never = refl
+
 -- the place that was found, or the length
-place_or_len : (place len : ℕ) (less : Bool) → ltb place len ≡ less → place ≤ len → unwrap_or (cond less (Some place) None) len ≡ place
-place_or_len place len true is within = refl
-place_or_len place len false is within = omega (arith, ltb-false place len is)
+place_or_len : (bytes : List ℕ) (place : Option ℕ) → IsFirstByte (is_byte 10) bytes place → unwrap_or place (length bytes) ≡ position_or_len is_line_feed bytes
+place_or_len bytes None none =
+    sym (position_or_len_is is_line_feed bytes (length bytes) 0 (omega arith) (λ k less. no_is_false _ (none k (omega arith) less)) (λ less. absurd (omega arith)))
+place_or_len bytes (Some place) first =
+    sym (position_or_len_is is_line_feed bytes place 0 (omega (arith, first.0.high)) (λ k less. no_is_false _ (first.0.before k (omega arith) less)) (λ less. first.1))
 
 pub returns : goal.returns
-returns c =
-    let bytes = c.args.bytes.now in
-    let place : ℕ = position_or_len is_line_feed bytes in
-    let found : c.position.result ≡ cond (ltb place (length bytes)) (Some place) None = position_from_yields_List is_line_feed _ _ c.position.result c.position.ensures.ran (YieldsList-from_slice bytes c.iter.ensures.rest) (λ x b q k. search (rules, tests)) in
-    c.unwrap_or.ensures ∙ ap (λ o. unwrap_or o (length bytes)) found ∙ place_or_len place (length bytes) (ltb place (length bytes)) refl (prefix_len-le-length (λ b. not (is_line_feed b)) bytes)
+returns c = c.unwrap_or.ensures ∙ place_or_len c.args.bytes.now c.memchr.result c.memchr.ensures
