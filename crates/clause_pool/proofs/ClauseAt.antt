@@ -1,7 +1,7 @@
 -- Finding a held clause by its name, whole: its literals and its uses.
 use Rattle.std.proofs.Common.{◌≡◌, ℕ, ◌<◌, ◌==◌, Bool, true, false, cond, List, [], ◌∷◌, length, refl, ap, sym, ◌∙◌, subst, arith}
 use Rattle.std.specs.Prelude.{Option, Some, None, option_map, find}
-use Rattle.std.proofs.lemmas.Bool.{both_ways, cond_both, cond-true, cond-false, eq-eqb, ne_eqb}
+use Rattle.std.proofs.lemmas.Bool.{cond_both, cond-true, cond-false, eq-eqb, ne_eqb}
 use Rattle.std.proofs.lemmas.Option.{same_Some}
 use Rattle.std.proofs.lemmas.List.{length-map}
 use Rattle.lit_base.specs.Named.{same_name, lits_at}
@@ -46,19 +46,6 @@ not_found_parts : {X : Type 0} (b : Bool) (x : X) (o : Option X) → cond b (Som
 not_found_parts true x o none = cc
 not_found_parts false x o none = (refl, none)
 
--- two clauses of different names are looked up in either order
-either_order : {X : Type 0} (c d n : Name) (x y : X) (o : Option X) → same_name d c ≡ false →
-    cond (same_name d n) (Some y) (cond (same_name c n) (Some x) o) ≡ cond (same_name c n) (Some x) (cond (same_name d n) (Some y) o)
-either_order c d n x y o apart = by_tests (same_name c n) (same_name d n) refl refl
-  where
-    by_tests : (s t : Bool) → same_name c n ≡ s → same_name d n ≡ t → cond t (Some y) (cond s (Some x) o) ≡ cond s (Some x) (cond t (Some y) o)
-    by_tests true true here there =
-        let same : same_name d c ≡ true = subst (λ m. same_name d m ≡ true) (sym (same_name-true c n here)) there in
-        absurd (both_ways (same_name d c) apart same)
-    by_tests true false here there = refl
-    by_tests false true here there = refl
-    by_tests false false here there = refl
-
 -- the look-up with one clause more, of a new name
 pub clause_at-with : (c : HeldClause) (held : List HeldClause) (n : Name) → clause_at held c.name ≡ None →
     clause_at (with_clause c held) n ≡ cond (same_name c.name n) (Some c) (clause_at held n)
@@ -68,7 +55,12 @@ clause_at-with c (d ∷ later) n free =
     cond_both (is_before c.name d.name) (c ∷ d ∷ later) (d ∷ with_clause c later)
     (λ held. clause_at held n ≡ cond (same_name c.name n) (Some c) (clause_at (d ∷ later) n))
     (λ before. refl)
-    (λ after. ap (λ o. cond (same_name d.name n) (Some d) o) (clause_at-with c later n apart.1) ∙ either_order c.name d.name n c d (clause_at later n) apart.0)
+    (λ after. ap (λ o. cond (same_name d.name n) (Some d) o) (clause_at-with c later n apart.1) ∙ by_test (same_name c.name n) refl apart.0)
+  where
+    by_test : (b : Bool) → same_name c.name n ≡ b → same_name d.name c.name ≡ false →
+        cond (same_name d.name n) (Some d) (cond b (Some c) (clause_at later n)) ≡ cond b (Some c) (cond (same_name d.name n) (Some d) (clause_at later n))
+    by_test true here apart = cond-false (same_name d.name n) (Some d) (Some c) (subst (λ m. same_name d.name m ≡ false) (same_name-true c.name n here) apart)
+    by_test false other apart = refl
 
 -- a name that has no place has no clause
 pub clause_at-no_place : (rows : List HeldClause) (n : Name) → place_at (row_names rows) n ≡ None → clause_at rows n ≡ None

@@ -1,4 +1,4 @@
-//! The held clauses of a core by name, in one flat arena of literals.
+//! The held clauses of a core by name, in flat arenas of literals.
 #![tactic(auto)]
 
 pub use pool::Pool;

@@ -1,4 +1,4 @@
-ghost use Rattle.std.specs.Prelude.{◌≡◌, ◌+◌, ◌<◌, ◌^◌, [], ◌∷◌, is_some, IsTrue, IsSome, Some, None, false, All, OnOk, OnErr};
+ghost use Rattle.std.specs.Prelude.{◌≡◌, ◌↔◌, ◌+◌, ◌<◌, ◌^◌, [], ◌∷◌, is_some, IsTrue, IsSome, Some, None, false, All, OnOk, OnErr};
 ghost use Rattle.std.specs.Option.{ForSome};
 ghost use Rattle.std.specs.List.{IsDistinct};
 ghost use Rattle.lit_base.specs.Literal.{same};
@@ -90,7 +90,7 @@ impl Pool {
         if is_front(name, self.originals.len()) {
             return self.originals.lits(name.index as usize);
         }
-        self.table.lits(self.table.place_near(name, place))
+        self.table.lits(self.table.find_near(name, place))
     }
 
     /// Whether a clause of this name is held.
@@ -99,7 +99,7 @@ impl Pool {
         ensures ordered { IsOrdered self.now }
         ensures distinct { HaveDistinctLits (clauses_of self.now) }
     {
-        is_front(name, self.originals.len()) || self.table.place_of(name).is_some()
+        is_front(name, self.originals.len()) || self.table.find(name).is_some()
     }
 
     /// The number of held clauses that are no originals.
@@ -129,7 +129,7 @@ impl Pool {
         if is_front(name, self.originals.len()) {
             return 0;
         }
-        self.table.uses(self.table.place_near(name, place))
+        self.table.uses(self.table.find_near(name, place))
     }
 
     /// Counts a use of a held clause; uses of originals aren't counted.
@@ -151,7 +151,7 @@ impl Pool {
         if name.period == 0 {
             return;
         }
-        let found = self.table.place_near(name, place);
+        let found = self.table.find_near(name, place);
         self.table.count_use(found);
     }
 
@@ -186,7 +186,7 @@ fn is_front(name: Name, count: usize) -> bool
 
 /// Whether the name is that of the original with this index.
 fn is_original_at(name: Name, index: usize) -> bool
-    ensures { IsTrue result → name ≡ original index }
+    ensures { IsTrue result ↔ name ≡ original index }
 {
     name.period == 0 && name.core == 0 && name.index as usize == index
 }

@@ -20,7 +20,7 @@ const FIRST_CHAINS: usize = 64;
 /// Clauses that are found by their name, seen by contracts as their list, the newest first.
 ///
 /// A name leads to the head of its chain and from there to a slot, which has its key. Beside its literals a clause takes
-/// the 32 bytes of its slot, a flag, and 3 to 6 bytes of heads.
+/// the 32 bytes of its slot, one of a flag, and 3 to 6 of heads.
 #[derive(Debug, Drop)]
 pub(crate) struct Table {
     literals: Vec<Lit>,
@@ -74,7 +74,7 @@ impl Table {
     }
 
     /// The place of the clause with this name.
-    pub(crate) fn place_of(&self, name: Name) -> Option<usize>
+    pub(crate) fn find(&self, name: Name) -> Option<usize>
         ensures { result ≡ place_at (row_names self.now) name }
     {
         let _ = &self.literals;
@@ -82,7 +82,7 @@ impl Table {
     }
 
     /// The place of the clause with this name, which there is, sought first where it is believed to be. That is put right.
-    pub(crate) fn place_near(&self, name: Name, believed: &mut u32) -> usize
+    pub(crate) fn find_near(&self, name: Name, believed: &mut u32) -> usize
         requires apart { AreApart (row_names self.now) }
         requires some { IsSome (place_at (row_names self.now) name) }
         ensures { place_at (row_names self.now) name ≡ Some result }
@@ -91,7 +91,7 @@ impl Table {
         if near < self.slots.len() && self.slots[near].name == name {
             return near;
         }
-        let found = self.place_of(name).unwrap();
+        let found = self.find(name).unwrap();
         *believed = u32::try_from(found).unwrap_or(u32::MAX);
         found
     }

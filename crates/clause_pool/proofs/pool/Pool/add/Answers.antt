@@ -13,7 +13,7 @@ use Rattle.clause_pool.proofs.pool.Pool.add.Goals as goal
 pub invariant_of-self-then-is_empty : goal.invariant_of-self-then-is_empty
 invariant_of-self-then-is_empty c =
     let none : c.self.inside.table ≡ [] = nil_from_length c.self.inside.table (eqb-true (length c.self.inside.table) 0 (sym c.is_empty.ensures ∙ c.if-is_empty.true)) in
-    let named : c.args.name ≡ original (length c.self.inside.originals) = c.is_original_at.ensures c.if-is_original_at.true ∙ ap original c.len.ensures in
+    let named : c.args.name ≡ original (length c.self.inside.originals) = c.is_original_at.ensures.0 c.if-is_original_at.true ∙ ap original c.len.ensures in
     subst IsPool (sym (rows_pushed c.self.inside.table c.self.inside.originals c.push.new.self c.args.name c.args.lits.now none named c.in_ok-push.ensures.ok))
     (pool_added (record { name = c.args.name; lits = c.args.lits.now; uses = 0 }) (c.self.inside.table ++ originals_of c.self.inside.originals) c.self.invariant
     (ap (λ held. lits_at (clauses_of held) c.args.name) c.self.view_is ∙ c.requires.free) c.requires.distinct)

@@ -14,25 +14,25 @@ pub returns-then-name-eq0 : goal.returns-then-name-eq0
 returns-then-name-eq0 c = sym (with_uses-original c.args.name c.args.self.now (eq-eqb c.args.name.period 0 c.if-name-eq0.true))
 
 -- a lemma has a place in the table
-pub place_near-found-requires-clause-apart : goal.place_near-found-requires-clause-apart
-place_near-found-requires-clause-apart c = apart_left c.self.inside.table (originals_of c.self.inside.originals) c.self.invariant.apart
+pub find_near-found-requires-clause-apart : goal.find_near-found-requires-clause-apart
+find_near-found-requires-clause-apart c = apart_left c.self.inside.table (originals_of c.self.inside.originals) c.self.invariant.apart
 
-pub place_near-found-requires-clause-some : goal.place_near-found-requires-clause-some
-place_near-found-requires-clause-some c =
+pub find_near-found-requires-clause-some : goal.find_near-found-requires-clause-some
+find_near-found-requires-clause-some c =
     let behind = lemma_behind (length c.self.inside.originals) c.args.name (ne_eqb c.args.name.period 0 c.if-name-eq0.false) in
     sym (behind_held c.self.inside.table c.self.inside.originals c.args.self.now c.args.name (record { apart = c.self.invariant.apart; is = c.self.view_is }) behind) ∙ c.requires.held
 
 pub count_use-requires-clause-within : goal.count_use-requires-clause-within
 count_use-requires-clause-within c =
     let behind = lemma_behind (length c.self.inside.originals) c.args.name (ne_eqb c.args.name.period 0 c.if-name-eq0.false) in
-    (behind_clause c.self.inside.table c.self.inside.originals c.args.self.now c.args.name c.place_near-found.result (record { apart = c.self.invariant.apart; is = c.self.view_is }) behind
-    c.place_near-found.ensures).1
+    (behind_clause c.self.inside.table c.self.inside.originals c.args.self.now c.args.name c.find_near-found.result (record { apart = c.self.invariant.apart; is = c.self.view_is }) behind
+    c.find_near-found.ensures).1
 
 pub count_use-requires-clause-fits : goal.count_use-requires-clause-fits
 count_use-requires-clause-fits c = λ d is.
     let behind = lemma_behind (length c.self.inside.originals) c.args.name (ne_eqb c.args.name.period 0 c.if-name-eq0.false) in
-    let here = behind_clause c.self.inside.table c.self.inside.originals c.args.self.now c.args.name c.place_near-found.result (record { apart = c.self.invariant.apart; is = c.self.view_is }) behind
-    c.place_near-found.ensures in
+    let here = behind_clause c.self.inside.table c.self.inside.originals c.args.self.now c.args.name c.find_near-found.result (record { apart = c.self.invariant.apart; is = c.self.view_is }) behind
+    c.find_near-found.ensures in
     c.requires.fits d.uses (ap (λ o. option_map (λ e. e.uses) o) (here.0 ∙ is))
 
 -- one clause has one use more
@@ -41,7 +41,7 @@ invariant_of-self c =
     let rows = c.self.inside.table ++ originals_of c.self.inside.originals in
     let apart = apart_left c.self.inside.table (originals_of c.self.inside.originals) c.self.invariant.apart in
     let table = ap (λ counted. counted ++ originals_of c.self.inside.originals) c.count_use.ensures
-    ∙ used_rows c.self.inside.table c.self.inside.originals c.args.name c.place_near-found.result apart (ne_eqb c.args.name.period 0 c.if-name-eq0.false) c.place_near-found.ensures in
+    ∙ used_rows c.self.inside.table c.self.inside.originals c.args.name c.find_near-found.result apart (ne_eqb c.args.name.period 0 c.if-name-eq0.false) c.find_near-found.ensures in
     subst IsPool (sym table) (pool_changed (with_use (c.args.name ∷ [])) (used_name c.args.name) (clauses_of-with_uses (c.args.name ∷ [])) rows c.self.invariant)
 
 pub returns : goal.returns
@@ -49,5 +49,5 @@ returns c =
     let rows = c.self.inside.table ++ originals_of c.self.inside.originals in
     let apart = apart_left c.self.inside.table (originals_of c.self.inside.originals) c.self.invariant.apart in
     let table = ap (λ counted. counted ++ originals_of c.self.inside.originals) c.count_use.ensures
-    ∙ used_rows c.self.inside.table c.self.inside.originals c.args.name c.place_near-found.result apart (ne_eqb c.args.name.period 0 c.if-name-eq0.false) c.place_near-found.ensures in
+    ∙ used_rows c.self.inside.table c.self.inside.originals c.args.name c.find_near-found.result apart (ne_eqb c.args.name.period 0 c.if-name-eq0.false) c.find_near-found.ensures in
     ap held_of table ∙ (held_of-map (with_use (c.args.name ∷ [])) (used_name c.args.name) rows ∙ ap (with_uses (c.args.name ∷ [])) c.self.view_is)

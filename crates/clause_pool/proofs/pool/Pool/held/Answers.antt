@@ -17,7 +17,7 @@ pub returns-else-is_front-clause-value : goal.returns-else-is_front-clause-value
 returns-else-is_front-clause-value c =
     let behind : is_front (length c.self.inside.originals) c.args.name ≡ false = ap (λ count. is_front count c.args.name) (sym c.len.ensures) ∙ (sym c.is_front.ensures ∙ c.if-is_front.false) in
     c.is_some.ensures
-    ∙ (ap is_some c.place_of.ensures
+    ∙ (ap is_some c.find.ensures
     ∙ sym (behind_held c.self.inside.table c.self.inside.originals c.args.self.now c.args.name (record { apart = c.self.invariant.apart; is = c.self.view_is }) behind))
 
 -- the clauses stand in order

@@ -11,8 +11,8 @@ returns-then-is_front-clause-lits g c =
     front_lits c.self.inside.table c.self.inside.originals c.args.self.now c.args.name c.lits.result.now (record { apart = c.self.invariant.apart; is = c.self.view_is }) front c.lits.ensures
 
 -- any other clause has a place in the table
-pub place_near-requires : goal.place_near-requires
-place_near-requires g c =
+pub find_near-requires : goal.find_near-requires
+find_near-requires g c =
     let behind : is_front (length c.self.inside.originals) c.args.name ≡ false = ap (λ count. is_front count c.args.name) (sym c.len.ensures) ∙ (sym c.is_front.ensures ∙ c.if-is_front.false) in
     record {
       apart = apart_left c.self.inside.table (originals_of c.self.inside.originals) c.self.invariant.apart;
@@ -22,11 +22,11 @@ place_near-requires g c =
 pub lits-requires-2 : goal.lits-requires-2
 lits-requires-2 g c =
     let behind : is_front (length c.self.inside.originals) c.args.name ≡ false = ap (λ count. is_front count c.args.name) (sym c.len.ensures) ∙ (sym c.is_front.ensures ∙ c.if-is_front.false) in
-    (behind_clause c.self.inside.table c.self.inside.originals c.args.self.now c.args.name c.place_near.result (record { apart = c.self.invariant.apart; is = c.self.view_is }) behind c.place_near.ensures).1
+    (behind_clause c.self.inside.table c.self.inside.originals c.args.self.now c.args.name c.find_near.result (record { apart = c.self.invariant.apart; is = c.self.view_is }) behind c.find_near.ensures).1
 
 -- where it stands
 pub returns-clause-lits : goal.returns-clause-lits
 returns-clause-lits g c =
     let behind : is_front (length c.self.inside.originals) c.args.name ≡ false = ap (λ count. is_front count c.args.name) (sym c.len.ensures) ∙ (sym c.is_front.ensures ∙ c.if-is_front.false) in
-    behind_lits c.self.inside.table c.self.inside.originals c.args.self.now c.args.name c.place_near.result c.lits-2.result.now (record { apart = c.self.invariant.apart; is = c.self.view_is }) behind
-    c.place_near.ensures c.lits-2.ensures
+    behind_lits c.self.inside.table c.self.inside.originals c.args.self.now c.args.name c.find_near.result c.lits-2.result.now (record { apart = c.self.invariant.apart; is = c.self.view_is }) behind
+    c.find_near.ensures c.lits-2.ensures

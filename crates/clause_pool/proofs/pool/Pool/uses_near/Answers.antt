@@ -12,8 +12,8 @@ returns-then-is_front c =
     front_uses c.self.inside.table c.self.inside.originals c.args.self.now c.args.name (record { apart = c.self.invariant.apart; is = c.self.view_is }) front
 
 -- any other clause has a place in the table
-pub place_near-requires : goal.place_near-requires
-place_near-requires c =
+pub find_near-requires : goal.find_near-requires
+find_near-requires c =
     let behind : is_front (length c.self.inside.originals) c.args.name ≡ false = ap (λ count. is_front count c.args.name) (sym c.len.ensures) ∙ (sym c.is_front.ensures ∙ c.if-is_front.false) in
     record {
       apart = apart_left c.self.inside.table (originals_of c.self.inside.originals) c.self.invariant.apart;
@@ -23,12 +23,12 @@ place_near-requires c =
 pub uses-requires : goal.uses-requires
 uses-requires c =
     let behind : is_front (length c.self.inside.originals) c.args.name ≡ false = ap (λ count. is_front count c.args.name) (sym c.len.ensures) ∙ (sym c.is_front.ensures ∙ c.if-is_front.false) in
-    (behind_clause c.self.inside.table c.self.inside.originals c.args.self.now c.args.name c.place_near.result (record { apart = c.self.invariant.apart; is = c.self.view_is }) behind c.place_near.ensures).1
+    (behind_clause c.self.inside.table c.self.inside.originals c.args.self.now c.args.name c.find_near.result (record { apart = c.self.invariant.apart; is = c.self.view_is }) behind c.find_near.ensures).1
 
 -- where it stands
 pub returns : goal.returns
 returns c =
     let behind : is_front (length c.self.inside.originals) c.args.name ≡ false = ap (λ count. is_front count c.args.name) (sym c.len.ensures) ∙ (sym c.is_front.ensures ∙ c.if-is_front.false) in
     ap (λ o. option_map (λ d. d.uses) o)
-    (behind_clause c.self.inside.table c.self.inside.originals c.args.self.now c.args.name c.place_near.result (record { apart = c.self.invariant.apart; is = c.self.view_is }) behind c.place_near.ensures).0
+    (behind_clause c.self.inside.table c.self.inside.originals c.args.self.now c.args.name c.find_near.result (record { apart = c.self.invariant.apart; is = c.self.view_is }) behind c.find_near.ensures).0
     ∙ c.uses.ensures

@@ -43,35 +43,24 @@ overflow_add-self c =
 -- the table has one slot more
 pub invariant_of-self-2 : goal.invariant_of-self-2
 invariant_of-self-2 c =
-    let room = c.make_room in
-    let relinked = is_relinked room.new.slots c.deref_mut.result.now c.more_chains.new.slots c.self.inside.slots.items c.more_chains.new.heads.items c.more_chains.ensures.slots c.deref_mut.ensures.value
-    room.ensures.slots c.deref_mut.ensures.len c.more_chains.ensures.linked in
-    let place : c.len.result ≡ length (with_items room.new.slots c.more_chains.new.slots).items = omega (arith, c.len.ensures, relinked.size) in
-    let added = is_added room.new.slots c.more_chains.new.heads c.self.inside.literals.items room.new.literals.items c.put_literals-end.new.literals.items c.args.lits.now c.self.inside.slots.items
-    c.more_chains.new.slots c.push_reserved.new.self.items c.deref_mut-2.result.now c.begin_chain-link.new.heads c.args.name c.begin_chain-link.result c.put_literals-end.result c.len.result
-    relinked room.ensures.literals c.put_literals-end.ensures.literals c.put_literals-end.ensures.end c.push_reserved.ensures.items place c.begin_chain-link.ensures.within
-    c.begin_chain-link.ensures.link c.begin_chain-link.ensures.heads c.deref_mut-2.ensures.value c.deref_mut-2.ensures.len in
+    let relinked = is_relinked c.make_room.new.slots c.deref_mut.result.now c.more_chains.new.slots c.self.inside.slots.items c.more_chains.new.heads.items c.more_chains.ensures.slots
+    c.deref_mut.ensures.value c.make_room.ensures.slots c.deref_mut.ensures.len c.more_chains.ensures.linked in
+    let added = is_added c.make_room.new.slots c.more_chains.new.heads _ _ _ _ _ _ _ _ _ _ _ _ _ relinked c.make_room.ensures.literals c.put_literals-end.ensures.literals c.put_literals-end.ensures.end c.push_reserved.ensures.items
+    (c.len.ensures ∙ sym relinked.size) c.begin_chain-link.ensures.within c.begin_chain-link.ensures.link c.begin_chain-link.ensures.heads c.deref_mut-2.ensures.value c.deref_mut-2.ensures.len in
     let heads : length (with_items c.more_chains.new.heads c.begin_chain-link.new.heads).items ≡ c.more_chains.new.heads.len =
     long_as_before c.more_chains.new.heads c.begin_chain-link.new.heads (ap length (sym c.deref_mut-2.ensures.value) ∙ c.deref_mut-2.ensures.len) in
     let some : 0 < length (with_items c.more_chains.new.heads c.begin_chain-link.new.heads).items = omega (arith, heads, c.in_ok-more_chains.ensures.some, ap length c.deref_mut-2.ensures.value, c.deref_mut-2.ensures.len) in
-    let flags : length c.self.inside.flags.items + 1 ≡ length c.push_reserved-2.new.self.items = omega (arith, ap length c.push_reserved-2.ensures.items, length_push room.new.flags.items false, ap length room.ensures.flags) in
+    let flags : length c.self.inside.flags.items + 1 ≡ length c.push_reserved-2.new.self.items =
+    omega (arith, ap length c.push_reserved-2.ensures.items, length_push c.make_room.new.flags.items false, ap length c.make_room.ensures.flags) in
     subst (λ n. IsTable c.put_literals-end.new.literals.items (reverse c.push_reserved.new.self.items) n (with_items c.more_chains.new.heads c.begin_chain-link.new.heads).items (c.self.inside.volume + c.weight_of.result))
-    flags
-    (table_after c.self.inside.literals.items c.put_literals-end.new.literals.items c.args.lits.now c.self.inside.slots.items (with_items room.new.slots c.more_chains.new.slots).items
-    c.push_reserved.new.self.items (length c.self.inside.flags.items) c.self.inside.heads.items c.more_chains.new.heads.items (with_items c.more_chains.new.heads c.begin_chain-link.new.heads).items
-    _ c.self.inside.volume c.weight_of.result c.self.invariant added some c.weight_of.ensures)
+    flags (table_after _ _ _ _ _ _ _ _ _ _ _ _ _ c.self.invariant added some c.weight_of.ensures)
 
 -- it is that of the clause
 pub returns-clause-ok : goal.returns-clause-ok
 returns-clause-ok c =
-    let room = c.make_room in
-    let relinked = is_relinked room.new.slots c.deref_mut.result.now c.more_chains.new.slots c.self.inside.slots.items c.more_chains.new.heads.items c.more_chains.ensures.slots c.deref_mut.ensures.value
-    room.ensures.slots c.deref_mut.ensures.len c.more_chains.ensures.linked in
-    let place : c.len.result ≡ length (with_items room.new.slots c.more_chains.new.slots).items = omega (arith, c.len.ensures, relinked.size) in
-    let added = is_added room.new.slots c.more_chains.new.heads c.self.inside.literals.items room.new.literals.items c.put_literals-end.new.literals.items c.args.lits.now c.self.inside.slots.items
-    c.more_chains.new.slots c.push_reserved.new.self.items c.deref_mut-2.result.now c.begin_chain-link.new.heads c.args.name c.begin_chain-link.result c.put_literals-end.result c.len.result
-    relinked room.ensures.literals c.put_literals-end.ensures.literals c.put_literals-end.ensures.end c.push_reserved.ensures.items place c.begin_chain-link.ensures.within
-    c.begin_chain-link.ensures.link c.begin_chain-link.ensures.heads c.deref_mut-2.ensures.value c.deref_mut-2.ensures.len in
-    rows_after c.self.inside.literals.items c.put_literals-end.new.literals.items c.args.lits.now c.self.inside.slots.items (with_items room.new.slots c.more_chains.new.slots).items
-    c.push_reserved.new.self.items c.more_chains.new.heads.items (with_items c.more_chains.new.heads c.begin_chain-link.new.heads).items _ c.self.invariant.arena added
+    let relinked = is_relinked c.make_room.new.slots _ _ c.self.inside.slots.items _ c.more_chains.ensures.slots c.deref_mut.ensures.value c.make_room.ensures.slots c.deref_mut.ensures.len
+    c.more_chains.ensures.linked in
+    rows_after _ _ _ _ _ _ _ _ _ c.self.invariant.arena
+    (is_added c.make_room.new.slots c.more_chains.new.heads _ _ _ _ _ _ _ _ _ _ _ _ _ relinked c.make_room.ensures.literals c.put_literals-end.ensures.literals c.put_literals-end.ensures.end c.push_reserved.ensures.items
+    (c.len.ensures ∙ sym relinked.size) c.begin_chain-link.ensures.within c.begin_chain-link.ensures.link c.begin_chain-link.ensures.heads c.deref_mut-2.ensures.value c.deref_mut-2.ensures.len)
     ∙ ap (λ rows. record { name = c.args.name; lits = c.args.lits.now; uses = 0 } ∷ rows) c.self.view_is

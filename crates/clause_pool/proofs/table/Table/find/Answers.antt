@@ -1,6 +1,6 @@
 use Rattle.std.proofs.Common.{◌∙◌}
 use Rattle.clause_pool.proofs.Placing.{linked_read, place_read}
-use Rattle.clause_pool.proofs.table.Table.place_of.Goals as goal
+use Rattle.clause_pool.proofs.table.Table.find.Goals as goal
 
 -- the slots are linked
 pub find-requires : goal.find-requires

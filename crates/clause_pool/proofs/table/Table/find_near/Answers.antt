@@ -1,7 +1,7 @@
 use Rattle.std.proofs.Common.{◌≡◌, ◌<◌, true, length, get_or, ap, sym, ◌∙◌, refl, arith}
 use Rattle.lit_base.specs.Named.{same_name}
 use Rattle.clause_pool.proofs.Placing.{apart_read, place_near, place_read}
-use Rattle.clause_pool.proofs.table.Table.place_near.Goals as goal
+use Rattle.clause_pool.proofs.table.Table.find_near.Goals as goal
 
 -- the slot that was believed to be the clause's has its name
 pub returns-then-eq : goal.returns-then-eq
