@@ -8,13 +8,13 @@ use Rattle.lit_base.specs.Trail.{level_now}
 use Rattle.lit_base.specs.Backjump.{cut, with_saved, saved_after}
 use Rattle.lit_base.specs.Rounds.{NamedClause}
 use Rattle.lit_base.specs.Named.{same_name, lits_at}
-use Rattle.lit_base.specs.Held.{HeldClause, clauses_of, unused, with_clause, with_uses, is_among}
+use Rattle.lit_base.specs.Held.{HeldClause, clauses_of, unused, with_clause, with_uses, is_among, with_named}
 use Rattle.lit_base.specs.Quiet.{IsQuiet, AreQuiet, AreQuietBelow}
 use Rattle.lit_base.specs.declared.trail.Entry.{Entry}
 use Rattle.lit_base.specs.declared.name.Name.{Name}
 use Rattle.lit_base.proofs.Cuts.{cut_itself}
 use Rattle.lit_base.proofs.HeldClauses.{same_name-itself, lits_at-with, clauses_of-with_uses}
-use Rattle.round_prop.specs.Attached.{RoundsState, with_named, IsAttached, IsAttachedTo, IsNewTo, IsSettled}
+use Rattle.round_prop.specs.Attached.{RoundsState, IsAttached, IsAttachedTo, IsNewTo, IsSettled}
 use Rattle.round_prop.proofs.Follow.{clauses_of-with_clause}
 use Rattle.trail_book.specs.TrailState.{TrailState, jumped}
 use Rattle.solo_core.specs.State.{CoreFrame, CoreState, SearchState}
@@ -48,6 +48,7 @@ pub decided_joined : (s : SearchState) (l : Literal) → IsJoined s → IsJoined
 decided_joined s l joined = record {
   variables = joined.variables;
   rounds_variables = joined.rounds_variables;
+  analyser_variables = joined.analyser_variables;
   few = joined.few;
   attached = entry_attached s.rounds (clauses_of s.state.clauses) s.state.trail _ joined.attached;
   uses = joined.uses;
@@ -183,13 +184,14 @@ length-saved_after level (e ∷ older) saved =
 
 -- the search after a jump
 abbrev pub after_jump : SearchState → RoundsState → TrailState → SearchState
-after_jump s rounds trail = record { frame = s.frame; state = record s.state { trail = trail.entries; saved = trail.saved }; rounds = rounds }
+after_jump s rounds trail = record s { state = record s.state { trail = trail.entries; saved = trail.saved }; rounds = rounds }
 
 pub jumped_joined : (s : SearchState) (rounds : RoundsState) (trail : TrailState) (level : ℕ) → IsJoined s → trail ≡ jumped level (record { entries = s.state.trail; saved = s.state.saved }) →
     rounds.variables ≡ s.rounds.variables → IsAttachedTo rounds (clauses_of s.state.clauses) trail.entries → IsJoined (after_jump s rounds trail)
 jumped_joined s rounds trail level joined trail_is same attached = record {
   variables = ap (λ (t : TrailState). length t.saved) trail_is ∙ (length-saved_after level s.state.trail s.state.saved ∙ joined.variables);
   rounds_variables = same ∙ joined.rounds_variables;
+  analyser_variables = joined.analyser_variables;
   few = joined.few;
   attached = attached;
   uses = joined.uses;

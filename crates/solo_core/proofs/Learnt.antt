@@ -67,8 +67,7 @@ uses_fit s ready few = few_uses-more s.state.conflicts (2 ^ 32) s.state.clauses 
 
 -- the search after the jump back, with these clauses held, and the lemma recorded
 abbrev pub after_lesson : SearchState → RoundsState → List HeldClause → TrailState → Lemma → SearchState
-after_lesson s rounds held trail lemma = record {
-  frame = s.frame;
+after_lesson s rounds held trail lemma = record s {
   state = record (with_lemma lemma s.state) { clauses = held; trail = trail.entries; saved = trail.saved };
   rounds = rounds;
 }
@@ -82,6 +81,7 @@ learnt_joined s rounds held trail lemma level ready trail_is held_is same attach
     record {
       variables = ap (λ (t : TrailState). length t.saved) trail_is ∙ (length-saved_after level s.state.trail s.state.saved ∙ joined.variables);
       rounds_variables = same ∙ joined.rounds_variables;
+      analyser_variables = joined.analyser_variables;
       few = joined.few;
       attached = attached;
       uses = subst (AreFewUses (s.state.conflicts + 1)) (sym held_is)

@@ -22,9 +22,10 @@ AreFewUses most held = AllByRecursion (λ c. c.uses ≤ most) held
 
 -- the parts of a search fit one another
 pub record IsJoined (s : SearchState) : Type 0 where
-  -- trail and propagation are over the variables, of which there are few
+  -- trail, propagation and conflict analysis are over the variables, of which there are few
   pub variables : length s.state.saved ≡ s.frame.variables
   pub rounds_variables : s.rounds.variables ≡ s.frame.variables
+  pub analyser_variables : s.analyser ≡ s.frame.variables
   pub few : s.frame.variables ≤ 1000000
   -- propagation goes over the held clauses, and has seen an older part of the trail
   pub attached : IsAttachedTo s.rounds (clauses_of s.state.clauses) s.state.trail

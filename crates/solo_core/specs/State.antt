@@ -44,6 +44,8 @@ pub record SearchState : Type 0 where
   pub state : CoreState
   -- what propagation keeps; only its own crate knows what that is
   pub rounds : RoundsState
+  -- for how many variables conflict analysis has room
+  pub analyser : ℕ
 
 -- a core
 pub record CoreValue : Type 0 where

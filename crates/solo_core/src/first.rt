@@ -11,6 +11,7 @@ use crate::holding::hold_clause;
 use crate::search::Search;
 use crate::sheet::Settings;
 use clause_pool::Pool;
+use first_uip::Analyser;
 use lit_base::{Clause, Formula, List, Name, NoMemory};
 use round_prop::Rounds;
 use std::alloc::Global;
@@ -31,6 +32,7 @@ pub(crate) fn first_search(
     let trail = Trail::with_room(alloc, variables)?;
     let mut pool = Pool::new(alloc);
     let mut rounds = Rounds::make(alloc, variables)?;
+    let analyser = Analyser::make(alloc, variables)?;
     hold_originals(&mut pool, &mut rounds, &trail, formula.clauses())?;
     Ok(Search {
         variables,
@@ -42,6 +44,7 @@ pub(crate) fn first_search(
         pool,
         trail,
         rounds,
+        analyser,
         lemmas: List::new(alloc),
     })
 }

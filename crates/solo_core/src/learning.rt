@@ -18,24 +18,22 @@ use crate::holding::hold_lemma;
 use crate::lemma::Lemma;
 use crate::search::Search;
 use crate::turn::TurnEnd;
-use first_uip::analyse;
 use lit_base::{Lesson, Name, NoMemory};
 use round_prop::Rounds;
-use std::alloc::Global;
 use trail_book::Trail;
 
 impl Search {
     /// Learns from a conflict of propagation: at level 0 it refutes, and above the core jumps back.
     ///
     /// After `NoMemory` the search may be in any state.
-    pub(crate) fn teach(&mut self, alloc: Global, conflict: Name) -> Result<TurnEnd, NoMemory>
+    pub(crate) fn teach(&mut self, conflict: Name) -> Result<TurnEnd, NoMemory>
         requires ready { IsReady self.old }
         requires conflict { IsConflict (look_of self.old.state) self.old.state.trail conflict }
         ensures state { OnOk result (IsSearchAt self.old.frame (taught self.old.frame self.old.state (lesson_of (look_of self.old.state) self.old.state.trail conflict)).state self.new) }
         ensures end { IfOk result (λ end. end ≡ (taught self.old.frame self.old.state (lesson_of (look_of self.old.state) self.old.state.trail conflict)).came_to) }
         ensures joined { OnOk result (IsJoined self.new) }
     {
-        let lesson = analyse(alloc, &self.pool, &self.trail, conflict)?;
+        let lesson = self.analyser.analyse(&self.pool, &self.trail, conflict)?;
         if self.trail.level() == 0 {
             self.refute(lesson)?;
             Ok(TurnEnd::Refuted)

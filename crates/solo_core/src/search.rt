@@ -19,9 +19,9 @@ use crate::propagation::propagate;
 use crate::sheet::End;
 use crate::turn::TurnEnd;
 use clause_pool::Pool;
+use first_uip::Analyser;
 use lit_base::{List, Lit, NoMemory};
 use round_prop::{Found, Rounds};
-use std::alloc::Global;
 use std::marker::Model;
 use trail_book::Trail;
 
@@ -46,6 +46,8 @@ pub(crate) struct Search {
     pub(crate) trail: Trail,
     /// What propagation keeps of the held clauses.
     pub(crate) rounds: Rounds,
+    /// What conflict analysis works with, made once for all conflicts.
+    pub(crate) analyser: Analyser,
     /// The lemmas of this period.
     pub(crate) lemmas: List<Lemma>,
 }
@@ -67,6 +69,7 @@ impl Model for Search {
         lemmas = s.lemmas;
       };
       rounds = s.rounds;
+      analyser = s.analyser;
     } };
 }
 
@@ -111,7 +114,7 @@ impl Search {
     /// One turn: propagation, and then a decision, or what its conflict teaches.
     ///
     /// After `NoMemory` the search may be in any state.
-    fn turn(&mut self, alloc: Global) -> Result<TurnEnd, NoMemory>
+    fn turn(&mut self) -> Result<TurnEnd, NoMemory>
         requires { IsReady self.old }
         ensures state { OnOk result (IsSearchAt self.old.frame (turn self.old.frame self.old.state).state self.new) }
         ensures end { IfOk result (λ end. end ≡ (turn self.old.frame self.old.state).came_to) }
@@ -119,14 +122,14 @@ impl Search {
     {
         match self.propagate() {
             Found::Fix => Ok(self.choose()),
-            Found::Conflict(conflict) => self.teach(alloc, conflict),
+            Found::Conflict(conflict) => self.teach(conflict),
         }
     }
 
     /// Turns up to the first that comes to no decision; one turn more than there are variables always suffices.
     ///
     /// After `NoMemory` the search may be in any state.
-    fn search_to_conflict(&mut self, alloc: Global) -> Result<TurnEnd, NoMemory>
+    fn search_to_conflict(&mut self) -> Result<TurnEnd, NoMemory>
         requires { IsReady self.old }
         ensures state { OnOk result (IsSearchAt self.old.frame (search_to_conflict (self.old.frame.variables + 1) self.old.frame self.old.state).state self.new) }
         ensures end { IfOk result (λ end. end ≡ (search_to_conflict (self.old.frame.variables + 1) self.old.frame self.old.state).came_to) }
@@ -134,7 +137,7 @@ impl Search {
     {
         let most = self.variables + 1;
         for _ in 0..most {
-            match self.turn(alloc)? {
+            match self.turn()? {
                 TurnEnd::Decided => {}
                 end => return Ok(end),
             }
@@ -145,7 +148,7 @@ impl Search {
     /// Searches for each conflict of the quota, up to an answer or the limit. Without an answer it ends at level 0.
     ///
     /// After `NoMemory` the search may be in any state.
-    pub(crate) fn stretch(&mut self, alloc: Global, quota: u32) -> Result<End, NoMemory>
+    pub(crate) fn stretch(&mut self, quota: u32) -> Result<End, NoMemory>
         requires sound { (base : List NamedClause) × IsSound base self.old.frame self.old.state }
         requires joined { IsJoined self.old }
         ensures state { OnOk result (IsSearchAt self.old.frame (stretch self.old.frame quota self.old.state).state self.new) }
@@ -155,18 +158,18 @@ impl Search {
         if self.conflicts == self.limit {
             return Ok(End::Spent);
         }
-        self.search_to_quota(alloc, quota)
+        self.search_to_quota(quota)
     }
 
     /// A search for each conflict of the quota, below the limit.
-    fn search_to_quota(&mut self, alloc: Global, quota: u32) -> Result<End, NoMemory>
+    fn search_to_quota(&mut self, quota: u32) -> Result<End, NoMemory>
         requires { IsReady self.old }
         ensures state { OnOk result (IsSearchAt self.old.frame (search_to_quota quota self.old.frame self.old.state).state self.new) }
         ensures end { IfOk result (λ ended. ended ≡ (search_to_quota quota self.old.frame self.old.state).ended) }
         ensures joined { OnOk result (IsJoined self.new) }
     {
         for _ in 0..quota {
-            let end = self.search_to_conflict(alloc)?;
+            let end = self.search_to_conflict()?;
             if let Some(ended) = self.after_search(end) {
                 return Ok(ended);
             }

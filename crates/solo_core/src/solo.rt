@@ -87,7 +87,7 @@ impl Core {
         // Broken until the search is done: where memory is refused it stops in the middle of a turn, and every early
         // return leaves the core so.
         self.is_broken = true;
-        let end = self.search.stretch(self.alloc, quota)?;
+        let end = self.search.stretch(quota)?;
         self.ended = Some(end);
         self.is_broken = false;
         Ok(end)

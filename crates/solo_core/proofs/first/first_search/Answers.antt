@@ -13,6 +13,7 @@ returns-clause-joined c =
     record {
       variables = ap (λ t. length t.saved) c.in_ok-trail.ensures ∙ length-replicate c.variables-variables.result None;
       rounds_variables = c.in_ok-hold_originals.ensures.variables ∙ c.in_ok-rounds.ensures.variables;
+      analyser_variables = c.in_ok-analyser.ensures;
       few = let few = formula.few_variables in omega arith;
       attached = c.in_ok-hold_originals.ensures.attached;
       uses = subst (AreFewUses 0) (sym c.in_ok-hold_originals.ensures.held) (few_uses-unused (named_from 0 c.clauses.result.now));
