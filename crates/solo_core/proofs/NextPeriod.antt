@@ -13,7 +13,7 @@ use Rattle.solo_core.specs.declared.sheet.Posted.{Posted}
 use Rattle.solo_core.specs.State.{CoreFrame, CoreState, lemma_name, lemma_clauses}
 use Rattle.solo_core.specs.Turn.{look_of}
 use Rattle.solo_core.specs.Changes.{with_added}
-use Rattle.solo_core.specs.Period.{in_next_period, posted_clause, clauses_posted, with_more, after_import, ArePosts, AreMails, NoneOfOthers}
+use Rattle.solo_core.specs.Period.{in_next_period, posted_clause, clauses_posted, with_more, core_after_import, ArePosts, AreMails, NoneOfOthers}
 use Rattle.solo_core.specs.Soundness.{IsSound, HoldsFormula}
 use Rattle.solo_core.proofs.Derived.{found_behind, others_not_found}
 use Rattle.solo_core.proofs.SoundClauses.{added_sound, added_holds, fresh_with}
@@ -113,11 +113,11 @@ imports_new base frame state mails others are = mails_new frame.variables state.
 
 -- an import keeps what is sound
 pub import_sound : (base : List NamedClause) (frame : CoreFrame) (state : CoreState) (mails : List Mail) → IsSound base frame (in_next_period state) → NoneOfOthers base state.period frame.core →
-    level_now state.trail ≡ 0 → AreMails frame.variables state.period frame.core 0 mails → IsSound (base ++ clauses_posted mails) frame (after_import mails state)
+    level_now state.trail ≡ 0 → AreMails frame.variables state.period frame.core 0 mails → IsSound (base ++ clauses_posted mails) frame (core_after_import mails state)
 import_sound base frame state mails sound others root are = more_sound (clauses_posted mails) base frame (in_next_period state) sound root (imports_new base frame state mails others are)
 
 -- and a formula that is held
 pub import_holds : (cnf : Cnf) (base : List NamedClause) (frame : CoreFrame) (state : CoreState) (mails : List Mail) → IsSound base frame (in_next_period state) → NoneOfOthers base state.period frame.core →
-    level_now state.trail ≡ 0 → AreMails frame.variables state.period frame.core 0 mails → HoldsFormula cnf state → HoldsFormula cnf (after_import mails state)
+    level_now state.trail ≡ 0 → AreMails frame.variables state.period frame.core 0 mails → HoldsFormula cnf state → HoldsFormula cnf (core_after_import mails state)
 import_holds cnf base frame state mails sound others root are holds =
     more_holds cnf (clauses_posted mails) base frame (in_next_period state) sound root (imports_new base frame state mails others are) holds

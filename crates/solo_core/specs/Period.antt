@@ -42,8 +42,8 @@ abbrev pub with_more : List NamedClause → CoreState → CoreState
 with_more clauses state = with_clauses (with_unused clauses state.clauses) state
 
 -- a core after it imported what these mails post: it is in the next period
-abbrev pub after_import : List Mail → CoreState → CoreState
-after_import mails state = with_more (clauses_posted mails) (in_next_period state)
+abbrev pub core_after_import : List Mail → CoreState → CoreState
+core_after_import mails state = with_more (clauses_posted mails) (in_next_period state)
 
 -- the posts have names of this period and core, with rising indexes from this place on, and their literals are
 -- distinct and within the variables

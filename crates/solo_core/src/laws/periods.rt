@@ -8,7 +8,7 @@ ghost use Rattle.solo_core.specs.State.{CoreFrame, CoreState, lemma_clauses};
 ghost use Rattle.solo_core.specs.First.{first_state};
 ghost use Rattle.solo_core.specs.Stretch.{Stretched, stretch};
 ghost use Rattle.solo_core.specs.Sheet.{mail_of, sheet_of};
-ghost use Rattle.solo_core.specs.Period.{BeginsPeriod, in_next_period, NoneOfOthers, AreMails, clauses_posted, after_import};
+ghost use Rattle.solo_core.specs.Period.{BeginsPeriod, in_next_period, NoneOfOthers, AreMails, clauses_posted, core_after_import};
 ghost use Rattle.solo_core.specs.Soundness.{IsSound, HoldsFormula};
 ghost use Rattle.solo_core.specs.declared.sheet.End.TheVariants.{Sat};
 ghost use Rattle.solo_core.specs.declared.sheet.Mail.{Mail};
@@ -47,9 +47,9 @@ pub fn law_import_keeps_soundness()
     ensures sound { (base : List NamedClause) (frame : CoreFrame) (state : CoreState) (mails : List Mail) →
         IsSound base frame (in_next_period state) → NoneOfOthers base state.period frame.core → level_now state.trail ≡ 0 →
         AreMails frame.variables state.period frame.core 0 mails →
-        IsSound (base ++ clauses_posted mails) frame (after_import mails state) }
+        IsSound (base ++ clauses_posted mails) frame (core_after_import mails state) }
     ensures formula { (cnf : Cnf) (base : List NamedClause) (frame : CoreFrame) (state : CoreState) (mails : List Mail) →
         IsSound base frame (in_next_period state) → NoneOfOthers base state.period frame.core → level_now state.trail ≡ 0 →
         AreMails frame.variables state.period frame.core 0 mails →
-        HoldsFormula cnf state → HoldsFormula cnf (after_import mails state) }
+        HoldsFormula cnf state → HoldsFormula cnf (core_after_import mails state) }
 {}
