@@ -6,9 +6,13 @@ use memchr::memchr;
 
 /// How many bytes stand before the first LF, or how many there are.
 ///
-/// A comment is passed by this search alone, many bytes at a time: some files are mostly comments.
+/// A comment is passed by this search alone, many bytes at a time: some files are mostly comments. An LF that stands at
+/// once is seen without it, since the call would cost more than the line.
 pub(crate) fn comment_len(bytes: &[u8]) -> usize
     ensures { result ≡ position_or_len is_line_feed bytes.now }
 {
+    if let [b'\n', ..] = bytes {
+        return 0;
+    }
     memchr(b'\n', bytes).unwrap_or(bytes.len())
 }

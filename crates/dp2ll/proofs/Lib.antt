@@ -1,6 +1,8 @@
 pub mod ReadingLemmas
-pub mod Decided
-pub mod AnalyseLemmas
+pub mod Backed
+pub mod Logged
+pub mod Answered
+pub mod Options
 pub mod Statuses
 pub mod Whole
 pub mod Ports

@@ -11,7 +11,7 @@ use Rattle.cnf_text.specs.Faults.{OnFault}
 use Rattle.cnf_text.specs.State.{ReaderState}
 use Rattle.cnf_text.specs.Reading.{early_fault, is_ended, formula_of}
 use Rattle.cnf_text.specs.Reader.{HasRead, Ends}
-use Rattle.cnf_text.proofs.Fed.{has_read_short, has_no_early_fault}
+use Rattle.cnf_text.specs.Laws.{ReadBytesAreSound, ReadBytesAreFew}
 use Rattle.dp2ll.specs.declared.ending.ReadStop.{ReadStop}
 use Rattle.dp2ll.specs.declared.ending.ReadStop.TheVariants.{NoFormula, ReadFault, NoMemory}
 use Rattle.dp2ll.specs.Reading.{KeepsBegun, GoesOn, Takes, bytes_taken, IsReading, StopsAtPiece, ReadsPiece, MeetsFault, StopsBy, ReadsOn, ReadsNothing, ReadsLast, TakesPiece, ReadsAll, StopsReading, IsRead, IsOfFile}
@@ -41,8 +41,8 @@ unfolding is_ended
 nothing_ended = refl
 
 -- before anything is taken a first piece is to be read
-nothing_goes_on : (reader : ReaderState) → HasRead reader [] → GoesOn []
-nothing_goes_on reader read = record { no_fault = has_no_early_fault reader [] read; not_ended = nothing_ended }
+nothing_goes_on : ReadBytesAreSound → (reader : ReaderState) → HasRead reader [] → GoesOn []
+nothing_goes_on sound reader read = record { no_fault = sound reader [] read; not_ended = nothing_ended }
 
 -- judged pieces and one more
 abbrev takes_more : (held now next : Option (List ℕ)) (taken piece : List ℕ) → GoesOn taken → length piece ≤ 65536 → held ≡ prepend_known taken now
@@ -112,12 +112,12 @@ kept_twice start now next first second = record {
 }
 
 -- where reading stands before the first read
-pub reading_starts : (start : InputsTold) (reader : ReaderState) → HasRead reader [] → IsReading start start reader 0
-reading_starts start reader read = record {
+pub reading_starts : ReadBytesAreSound → (start : InputsTold) (reader : ReaderState) → HasRead reader [] → IsReading start start reader 0
+reading_starts sound start reader read = record {
   kept = record { held = refl; begun = refl; begins = refl; later = omega arith; others = refl };
   taken = [];
   read = read;
-  goes_on = nothing_goes_on reader read;
+  goes_on = nothing_goes_on sound reader read;
   turns_taken = omega arith;
   rest = sym (prepend_nothing (start.at Formula).left);
 }
@@ -135,9 +135,10 @@ reading_goes_on start now next reader after turns h kept t = record {
 }
 
 -- more turns than a formula may have bytes can't be taken
-pub turns_bounded : (start now : InputsTold) (reader : ReaderState) (turns : ℕ) → 268435457 ≤ turns → IsReading start now reader turns → ⊥
-turns_bounded start now reader turns over h =
-    omega (arith, h.turns_taken, has_read_short reader h.taken h.read h.goes_on.not_ended)
+pub turns_bounded : ReadBytesAreFew → (start now : InputsTold) (reader : ReaderState) (turns : ℕ) → 268435457 ≤ turns
+    → IsReading start now reader turns → ⊥
+turns_bounded few start now reader turns over h =
+    omega (arith, h.turns_taken, few reader h.taken h.read h.goes_on.not_ended)
 
 -- a read that stops the loop by a refusal
 pub pieces_stop : (start now next : InputsTold) (reader : ReaderState) (turns : ℕ) (stop : ReadStop) → (h : IsReading start now reader turns)
@@ -173,20 +174,20 @@ pieces_end start now next reader after turns h (inr t) = record {
 }
 
 -- the name could not be begun
-pub unbegun : (held : Option (List ℕ)) (before now : SlotTold) (reader : ReaderState) → HasRead reader [] → now.left ≡ held
-    → Rose before.faults now.faults → StopsReading held before now ReadFault
-unbegun held before now reader read left rose = record {
+pub unbegun : ReadBytesAreSound → (held : Option (List ℕ)) (before now : SlotTold) (reader : ReaderState) → HasRead reader []
+    → now.left ≡ held → Rose before.faults now.faults → StopsReading held before now ReadFault
+unbegun sound held before now reader read left rose = record {
   taken = [];
-  goes_on = nothing_goes_on reader read;
+  goes_on = nothing_goes_on sound reader read;
   rest = sym left ∙ sym (prepend_nothing now.left);
   rose = rose;
 }
 
 -- memory was refused before the first read
-pub unread : (held : Option (List ℕ)) (before now : SlotTold) (reader : ReaderState) → HasRead reader [] → now.left ≡ held
-    → StopsReading held before now NoMemory
-unread held before now reader read left =
-    takes_judged held now.left [] (nothing_goes_on reader read) (sym left ∙ sym (prepend_nothing now.left))
+pub unread : ReadBytesAreSound → (held : Option (List ℕ)) (before now : SlotTold) (reader : ReaderState) → HasRead reader []
+    → now.left ≡ held → StopsReading held before now NoMemory
+unread sound held before now reader read left =
+    takes_judged held now.left [] (nothing_goes_on sound reader read) (sym left ∙ sym (prepend_nothing now.left))
 
 -- the whole file is this formula
 pub all_read : (held : Option (List ℕ)) (start after : SlotTold) (reader : ReaderState) (cnf : Cnf) → start.left ≡ held

@@ -4,7 +4,7 @@ use Rattle.std.specs.Io.KnownBytes.{prepend_known, IsAtEnd}
 use Rattle.lit_base.specs.Cnf.{Cnf}
 use Rattle.cnf_text.specs.declared.fault.CnfFault.{CnfFault}
 use Rattle.cnf_text.specs.Reading.{formula_of, early_fault}
-use Rattle.cnf_text.proofs.Whole.{early_fault_is_last, end_is_last}
+use Rattle.cnf_text.specs.Laws.{EarlyFaultStays, EndEndsInput}
 use Rattle.dp2ll.specs.Reading.{IsWhole, IsRead, IsNoFormula, bytes_taken}
 
 -- where bytes are told and nothing is left of them, all were taken
@@ -20,26 +20,34 @@ some_taken bytes taken held None told rest = cc
 some_taken bytes taken held (Some more) told rest = (more, (cc))
 
 -- where bytes are told and reading stopped where it should, what was taken is read as the whole is
-whole_read : (bytes taken : List ℕ) (held left : Option (List ℕ)) → held ≡ Some bytes → held ≡ prepend_known taken left → IsWhole taken left
-    → formula_of bytes ≡ formula_of taken
-whole_read bytes taken held left told rest (inl end) = ap formula_of (all_taken bytes taken held left told rest end)
-whole_read bytes taken held left told rest (inr ended) =
+whole_read : EndEndsInput → (bytes taken : List ℕ) (held left : Option (List ℕ)) → held ≡ Some bytes → held ≡ prepend_known taken left
+    → IsWhole taken left → formula_of bytes ≡ formula_of taken
+whole_read ends bytes taken held left told rest (inl end) = ap formula_of (all_taken bytes taken held left told rest end)
+whole_read ends bytes taken held left told rest (inr ended) =
     let parts = some_taken bytes taken held left told rest in
-    rw parts.1 (end_is_last taken parts.0 ended)
+    rw parts.1 (ends taken parts.0 ended)
 
 -- a told file that was read as a formula is that formula
-pub read_told : (bytes : List ℕ) (held left : Option (List ℕ)) (cnf : Cnf) → held ≡ Some bytes → IsRead held left cnf → formula_of bytes ≡ Ok cnf
-read_told bytes held left cnf told read = whole_read bytes (bytes_taken read.takes) held left told read.takes.rest read.whole ∙ read.formula
+pub read_told : EndEndsInput → (bytes : List ℕ) (held left : Option (List ℕ)) (cnf : Cnf) → held ≡ Some bytes → IsRead held left cnf
+    → formula_of bytes ≡ Ok cnf
+read_told ends bytes held left cnf told read = whole_read ends bytes (bytes_taken read.takes) held left told read.takes.rest read.whole ∙ read.formula
+
+-- what the laws of reading say of bytes that follow others
+pub record KnowsReading : Type 0 where
+  pub stays : EarlyFaultStays
+  pub ends : EndEndsInput
 
 -- a told file that was refused for a fault has that fault
-pub refused_told : (bytes : List ℕ) (held left : Option (List ℕ)) (fault : CnfFault) → held ≡ Some bytes → IsNoFormula held left fault
-    → formula_of bytes ≡ Err fault
-refused_told bytes held left fault told refused =
-    by bytes (bytes_taken refused.takes) held left fault told refused.takes.rest refused.found
+pub refused_told : KnowsReading → (bytes : List ℕ) (held left : Option (List ℕ)) (fault : CnfFault) → held ≡ Some bytes
+    → IsNoFormula held left fault → formula_of bytes ≡ Err fault
+refused_told laws bytes held left fault told refused =
+    by laws bytes (bytes_taken refused.takes) held left fault told refused.takes.rest refused.found
   where
-    by : (bytes taken : List ℕ) (held left : Option (List ℕ)) (fault : CnfFault) → held ≡ Some bytes → held ≡ prepend_known taken left
+    by : KnowsReading → (bytes taken : List ℕ) (held left : Option (List ℕ)) (fault : CnfFault) → held ≡ Some bytes
+        → held ≡ prepend_known taken left
         → (early_fault taken ≡ Some fault) ⊎ (IsWhole taken left × (formula_of taken ≡ Err fault)) → formula_of bytes ≡ Err fault
-    by bytes taken held left fault told rest (inl early) =
+    by laws bytes taken held left fault told rest (inl early) =
         let parts = some_taken bytes taken held left told rest in
-        rw parts.1 (early_fault_is_last taken parts.0 fault early)
-    by bytes taken held left fault told rest (inr (whole, found)) = whole_read bytes taken held left told rest whole ∙ found
+        rw parts.1 (laws.stays taken parts.0 fault early)
+    by laws bytes taken held left fault told rest (inr (whole, found)) =
+        whole_read laws.ends bytes taken held left told rest whole ∙ found

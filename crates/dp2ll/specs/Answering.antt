@@ -1,15 +1,18 @@
--- Deciding a formula, and writing its log and its answer.
+-- Running the cores, and writing the log and the answer of the run.
 use Rattle.std.specs.Prelude.{◌≡◌, ◌⊎◌, ℕ, List, Option, Result, Ok, Err}
 use Rattle.std.specs.Io.KnownBytes.{append_known}
 use Rattle.lit_base.specs.Cnf.{Cnf}
 use Rattle.desk_io.specs.Told.{PortTold, OutputsTold, Rose}
 use Rattle.desk_io.specs.Outputs.{GrowsByFront}
 use Rattle.desk_io.specs.declared.Port.TheVariants.{Answer, Complaint}
-use Rattle.dp2ll.specs.declared.verdict.Verdict.{Verdict}
-use Rattle.dp2ll.specs.declared.verdict.Verdict.TheVariants.{Satisfied, Refuted, Undecided}
+use Rattle.solo_core.specs.declared.sheet.Settings.{Settings}
+use Rattle.crew.specs.declared.outcome.Verdict.{Verdict}
+use Rattle.crew.specs.declared.outcome.Outcome.{Outcome}
+use Rattle.crew.specs.Log.{log_text}
+use Rattle.crew.specs.Outcome.{outcome_of}
 use Rattle.dp2ll.specs.declared.ending.WriteStop.{WriteStop}
 use Rattle.dp2ll.specs.declared.ending.WriteStop.TheVariants.{LogFault, AnswerFault, NoMemory}
-use Rattle.dp2ll.specs.Outcome.{verdict_of, log_text, answer_text, IsBacked, IsDecided}
+use Rattle.dp2ll.specs.Outcome.{answer_text, IsBacked}
 use Rattle.dp2ll.specs.Logging.{LogTold, log_told, LogsWhole, LogsFault, LogsPart}
 
 -- what the outputs tell but for the complaint port
@@ -57,43 +60,25 @@ CutsTexts log log_bytes answer_bytes before after AnswerFault = IsUnanswered log
 CutsTexts log log_bytes answer_bytes before after NoMemory =
     IsCutInLog log log_bytes before after ⊎ IsCutInAnswer log log_bytes answer_bytes before after
 
--- what writing a log and an answer leaves, by how it ended
-abbrev pub WritesTexts : Option (List ℕ) → List ℕ → List ℕ → Page → Page → Result (Unit {0}) WriteStop → Type 0
-WritesTexts log log_bytes answer_bytes before after (Ok done) = WritesBoth log log_bytes answer_bytes before after
-WritesTexts log log_bytes answer_bytes before after (Err stop) = CutsTexts log log_bytes answer_bytes before after stop
+-- the run has this verdict, which is backed, and log and answer hold exactly its texts
+pub record IsAnswered (cnf : Cnf) (settings : Settings) (log : Option (List ℕ)) (before after : Page) (verdict : Verdict) : Type 0 where
+  pub outcome : (outcome_of cnf settings).verdict ≡ verdict
+  pub backed : IsBacked cnf settings
+  pub texts : WritesBoth log (log_text cnf settings) (answer_text (outcome_of cnf settings)) before after
 
--- log and answer hold exactly the texts of a formula with this verdict; nothing was written where it is left open
-abbrev pub HoldsTexts : Cnf → Option (List ℕ) → Verdict → Page → Page → Type 0
-HoldsTexts cnf log (Satisfied model) before after = WritesBoth log (log_text cnf) (answer_text (Satisfied model)) before after
-HoldsTexts cnf log (Refuted lesson) before after = WritesBoth log (log_text cnf) (answer_text (Refuted lesson)) before after
-HoldsTexts cnf log Undecided before after = after ≡ before
-
--- the texts of a decided formula were cut short
-pub record CutsDecided (cnf : Cnf) (log : Option (List ℕ)) (verdict : Verdict) (before after : Page) (stop : WriteStop) : Type 0 where
-  pub decided : IsDecided verdict
-  pub cut : CutsTexts log (log_text cnf) (answer_text verdict) before after stop
-
--- memory was refused before anything was written
-pub record WritesNothing (before after : Page) (stop : WriteStop) : Type 0 where
-  pub memory : stop ≡ NoMemory
-  pub untouched : after ≡ before
-
--- what each way to stop while a verdict is written leaves
-abbrev pub StopsWriting : Cnf → Option (List ℕ) → Verdict → Page → Page → WriteStop → Type 0
-StopsWriting cnf log verdict before after stop = WritesNothing before after stop ⊎ CutsDecided cnf log verdict before after stop
-
--- what writing the texts of a verdict leaves, by how it ended
-abbrev pub WritesVerdict : Cnf → Option (List ℕ) → Verdict → Page → Page → Result (Unit {0}) WriteStop → Type 0
-WritesVerdict cnf log verdict before after (Ok done) = HoldsTexts cnf log verdict before after
-WritesVerdict cnf log verdict before after (Err stop) = StopsWriting cnf log verdict before after stop
-
--- propagation gives this verdict, which is backed, and log and answer hold its texts
-pub record IsAnswered (cnf : Cnf) (log : Option (List ℕ)) (before after : Page) (verdict : Verdict) : Type 0 where
-  pub outcome : verdict_of cnf ≡ verdict
-  pub backed : IsBacked cnf verdict
-  pub texts : HoldsTexts cnf log verdict before after
+-- what each way to stop in a run, or while its texts are written, leaves of them
+abbrev pub StopsWriting : Cnf → Settings → Option (List ℕ) → Page → Page → WriteStop → Type 0
+StopsWriting cnf settings log before after stop =
+    CutsTexts log (log_text cnf settings) (answer_text (outcome_of cnf settings)) before after stop
 
 -- what each answer of answering a formula says
-abbrev pub Answers : Cnf → Option (List ℕ) → Page → Page → Result Verdict WriteStop → Type 0
-Answers cnf log before after (Ok verdict) = IsAnswered cnf log before after verdict
-Answers cnf log before after (Err stop) = StopsWriting cnf log (verdict_of cnf) before after stop
+abbrev pub Answers : Cnf → Settings → Option (List ℕ) → Page → Page → Result Verdict WriteStop → Type 0
+Answers cnf settings log before after (Ok verdict) = IsAnswered cnf settings log before after verdict
+Answers cnf settings log before after (Err stop) = StopsWriting cnf settings log before after stop
+
+-- what writing an answer behind a whole log leaves of the answer port, by how it ended
+abbrev pub AnswersPort : List ℕ → PortTold → PortTold → Result (Unit {0}) WriteStop → Type 0
+AnswersPort text before after (Ok done) = after.written ≡ append_known before.written text
+AnswersPort text before after (Err LogFault) = ⊥
+AnswersPort text before after (Err AnswerFault) = GrowsByFront text before.written after.written × Rose before.faults after.faults
+AnswersPort text before after (Err NoMemory) = GrowsByFront text before.written after.written

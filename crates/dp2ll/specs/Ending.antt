@@ -1,8 +1,8 @@
 -- How a run of the program can end, with the exit status and the complaint of each.
 use Rattle.std.specs.Prelude.{ℕ, List, ◌++◌, codes, decimal, Option, Some, None}
 use Rattle.cnf_text.specs.Faults.{line_of, name_of}
-use Rattle.dp2ll.specs.declared.verdict.Verdict.{Verdict}
-use Rattle.dp2ll.specs.declared.verdict.Verdict.TheVariants.{Satisfied, Refuted, Undecided}
+use Rattle.crew.specs.declared.outcome.Verdict.{Verdict}
+use Rattle.crew.specs.declared.outcome.Verdict.TheVariants.{Sat, Unsat, Unknown}
 use Rattle.dp2ll.specs.declared.ending.ReadStop.{ReadStop}
 use Rattle.dp2ll.specs.declared.ending.ReadStop.TheVariants as reading
 use Rattle.dp2ll.specs.declared.ending.WriteStop.{WriteStop}
@@ -10,11 +10,11 @@ use Rattle.dp2ll.specs.declared.ending.WriteStop.TheVariants as writing
 use Rattle.dp2ll.specs.declared.ending.Ending.{Ending}
 use Rattle.dp2ll.specs.declared.ending.Ending.TheVariants.{Answered, Usage, Unread, Unwritten, NoMemory}
 
--- the exit status of a verdict: 10 and 20 are the SAT competitions' for satisfiable and unsatisfiable, the others are this program's own
+-- the exit status of a verdict, as the SAT competitions have it
 abbrev pub verdict_status : Verdict → ℕ
-verdict_status (Satisfied model) = 10
-verdict_status (Refuted lesson) = 20
-verdict_status Undecided = 7
+verdict_status Sat = 10
+verdict_status Unsat = 20
+verdict_status Unknown = 0
 
 -- the exit status where the file gave no formula
 abbrev pub read_status : ReadStop → ℕ

@@ -1,26 +1,29 @@
 -- What a run of the program promises: its status, its answer, its log and its complaint, and when each comes.
-use Rattle.std.specs.Prelude.{◌≡◌, ◌⊎◌, ℕ, List, Bool, Option, Some, None, Result, Ok, Err, String, string_bytes, map}
+use Rattle.std.specs.Prelude.{◌≡◌, ◌⊎◌, ◌↔◌, ℕ, List, Bool, ◌++◌, codes, Option, Some, None, Result, Ok, Err, String, string_bytes, map}
 use Rattle.std.specs.declared.alloc.Global.{Global}
 use Rattle.std.specs.Io.KnownBytes.{append_known}
 use Rattle.lit_base.specs.Cnf.{Cnf}
-use Rattle.lit_base.specs.declared.lesson.Lesson.{Lesson}
+use Rattle.lit_base.specs.Text.{values_text}
 use Rattle.desk_io.specs.Told.{InputsTold, OutputsTold, Rose}
 use Rattle.desk_io.specs.declared.Slot.TheVariants.{Formula}
 use Rattle.desk_io.specs.declared.Port.TheVariants.{Answer, Log, Complaint}
 use Rattle.cnf_text.specs.declared.fault.CnfFault.{CnfFault}
 use Rattle.cnf_text.specs.Reading.{formula_of}
+use Rattle.solo_core.specs.declared.sheet.Settings.{Settings}
 use Rattle.dp2ll.specs.declared.words.Job.{Job}
 use Rattle.dp2ll.specs.declared.words.Job.TheVariants.{Solve}
-use Rattle.dp2ll.specs.declared.verdict.Verdict.TheVariants.{Satisfied, Refuted, Undecided}
+use Rattle.crew.specs.declared.outcome.Verdict.TheVariants.{Sat, Unsat, Unknown}
+use Rattle.crew.specs.Log.{log_text}
+use Rattle.crew.specs.Outcome.{outcome_of}
 use Rattle.dp2ll.specs.declared.ending.ReadStop.TheVariants as reading
 use Rattle.dp2ll.specs.declared.ending.WriteStop.TheVariants as writing
 use Rattle.dp2ll.specs.declared.ending.Ending.{Ending}
 use Rattle.dp2ll.specs.declared.ending.Ending.TheVariants.{Answered, Usage, Unread, Unwritten}
 use Rattle.dp2ll.specs.Job.{job_of}
 use Rattle.dp2ll.specs.Ending.{verdict_status, status_of, complaint_of}
-use Rattle.dp2ll.specs.Outcome.{verdict_of, log_text, answer_text, sat_text, IsModelOf, IsRefuted, IsDecided}
+use Rattle.dp2ll.specs.Outcome.{answer_text, FindsModel, IsRefuted, AreAllSpent}
 use Rattle.dp2ll.specs.Logging.{log_told, LogsWhole}
-use Rattle.dp2ll.specs.Answering.{IsCutInLog, IsCutInAnswer, HoldsTexts}
+use Rattle.dp2ll.specs.Answering.{IsCutInLog, IsCutInAnswer, WritesBoth}
 use Rattle.dp2ll.specs.Complaint.{Tells, TellsFront, Complains}
 use Rattle.dp2ll.specs.Reading.{BeginsFormula}
 use Rattle.dp2ll.specs.Serving.{Desk, desk, ReadsAs, Solves, Serves}
@@ -59,14 +62,14 @@ pub record Headline (run : Run) : Type 0 where
   pub serves : Serves run.job (desk_before run) (desk_after run) how
   pub complains : Complains (complaint_of how) (status_of how) (run.before.at Complaint) (run.after.at Complaint) run.status
 
--- the job is `solve` on a file, with a log or none, of which this holds
-abbrev pub OnSolve : Option Job → (List ℕ → Option (List ℕ) → Type 0) → Type 0
+-- the job is `solve` on a file, with a log or none and with settings, of which this holds
+abbrev pub OnSolve : Option Job → (List ℕ → Option (List ℕ) → Settings → Type 0) → Type 0
 OnSolve None P = ⊥
-OnSolve (Some (Solve file log)) P = P file log
+OnSolve (Some (Solve file log settings)) P = P file log settings
 
 -- a `solve` ended like this by its cause, and its complaint was told
 pub record EndsBy (run : Run) (how : Ending) : Type 0 where
-  pub solves : OnSolve run.job (λ file log. Solves file log (desk_before run) (desk_after run) how)
+  pub solves : OnSolve run.job (λ file log settings. Solves file log settings (desk_before run) (desk_after run) how)
   pub complaint : Tells (complaint_of how) (run.before.at Complaint) (run.after.at Complaint)
 
 -- the words are no command line, and the complaint says how to call the program
@@ -79,11 +82,12 @@ pub record Words (run : Run) : Type 0 where
   pub faulty : run.status ≡ 1 → IsFaulty run
   pub refused : run.job ≡ None → (run.status ≡ 1) ⊎ (run.status ≡ 5)
 
--- statuses 10, 20 and 7 come only where the file is a formula that propagation satisfies, refutes or leaves open, and then log and answer hold exactly its texts
+-- statuses 10, 20 and 0 come only where the file is a formula whose run has that verdict, and then log and answer hold exactly
+-- the texts of the run
 pub record IsSolved (run : Run) : Type 0 where
-  pub satisfiable : run.status ≡ 10 → (model : List Bool) × EndsBy run (Answered (Satisfied model))
-  pub unsatisfiable : run.status ≡ 20 → (lesson : Lesson) × EndsBy run (Answered (Refuted lesson))
-  pub left_open : run.status ≡ 7 → EndsBy run (Answered Undecided)
+  pub satisfiable : run.status ≡ 10 → EndsBy run (Answered Sat)
+  pub unsatisfiable : run.status ≡ 20 → EndsBy run (Answered Unsat)
+  pub given_up : run.status ≡ 0 → EndsBy run (Answered Unknown)
   pub ending : Ending
   pub status : run.status ≡ status_of ending
 
@@ -91,37 +95,47 @@ pub record IsSolved (run : Run) : Type 0 where
 abbrev pub IsToldFormula : Run → List ℕ → Cnf → Type 0
 IsToldFormula run file cnf = (bytes : List ℕ) → run.inputs_before.held Formula file ≡ Some bytes → formula_of bytes ≡ Ok cnf
 
--- the printed model has a value for each variable and satisfies the formula, which is the file's
-pub record PrintsModel (run : Run) (file : List ℕ) : Type 0 where
+-- the printed model is one that the run found: it has a value for each variable and satisfies the formula, which is the file's
+pub record PrintsModel (run : Run) (file : List ℕ) (settings : Settings) : Type 0 where
   pub cnf : Cnf
   pub model : List Bool
-  pub satisfied : IsModelOf cnf model
-  pub printed : (run.after.at Answer).written ≡ append_known (run.before.at Answer).written (sat_text model)
+  pub found : FindsModel cnf settings model
+  pub printed : (run.after.at Answer).written ≡ append_known (run.before.at Answer).written (codes "s SATISFIABLE\n" ++ values_text model)
   pub told : IsToldFormula run file cnf
 
 -- at status 10 a model is printed, and it satisfies the formula
 abbrev pub IsModel : Run → Type 0
-IsModel run = run.status ≡ 10 → OnSolve run.job (λ file log. PrintsModel run file)
+IsModel run = run.status ≡ 10 → OnSolve run.job (λ file log settings. PrintsModel run file settings)
 
 -- the log is that of a proof that checks, so no model satisfies the formula, which is the file's
-pub record PrintsProof (run : Run) (file : List ℕ) (log : Option (List ℕ)) : Type 0 where
+pub record PrintsProof (run : Run) (file : List ℕ) (log : Option (List ℕ)) (settings : Settings) : Type 0 where
   pub cnf : Cnf
-  pub refuted : IsRefuted cnf
-  pub logged : LogsWhole log (log_text cnf) (log_told run.before) (log_told run.after)
+  pub refuted : IsRefuted cnf settings
+  pub logged : LogsWhole log (log_text cnf settings) (log_told run.before) (log_told run.after)
   pub told : IsToldFormula run file cnf
 
 -- at status 20 the proof checks, and a log that is named holds exactly its lines
 abbrev pub IsRefutation : Run → Type 0
-IsRefutation run = run.status ≡ 20 → OnSolve run.job (λ file log. PrintsProof run file log)
+IsRefutation run = run.status ≡ 20 → OnSolve run.job (λ file log settings. PrintsProof run file log settings)
 
--- no formula is given up as unknown
-abbrev pub IsNeverUnknown : Run → Type 0
-IsNeverUnknown run = run.status ≡ 0 → ⊥
+-- the statuses of a run that has a verdict
+abbrev pub IsVerdict : ℕ → Type 0
+IsVerdict status = (status ≡ 10) ⊎ (status ≡ 20) ⊎ (status ≡ 0)
+
+-- the status is 0 exactly where each core has spent its limit on the formula, which is the file's
+pub record GivesUpSpent (run : Run) (file : List ℕ) (settings : Settings) : Type 0 where
+  pub cnf : Cnf
+  pub spent : (run.status ≡ 0) ↔ AreAllSpent cnf settings
+  pub told : IsToldFormula run file cnf
+
+-- of the three verdicts, unknown comes exactly where every core has spent its limit
+abbrev pub IsUnknown : Run → Type 0
+IsUnknown run = IsVerdict run.status → OnSolve run.job (λ file log settings. GivesUpSpent run file settings)
 
 -- the formula's slot is begun at most once, with the job's file, and nothing else of the inputs changes
 abbrev pub ReadsFile : Option Job → InputsTold → InputsTold → Type 0
 ReadsFile None before after = after ≡ before
-ReadsFile (Some (Solve file log)) before after = BeginsFormula file before after ⊎ (after ≡ before)
+ReadsFile (Some (Solve file log settings)) before after = BeginsFormula file before after ⊎ (after ≡ before)
 
 -- the run ended for want of memory, with its line, or memory was refused to the complaint of another ending whose cause holds
 pub record WantsMemory (run : Run) : Type 0 where
@@ -138,27 +152,28 @@ pub record IsRefusal (run : Run) : Type 0 where
   pub no_memory : run.status ≡ 5 → WantsMemory run
   pub inputs : ReadsFile run.job run.inputs_before run.inputs_after
 
--- the file is this formula, and of its own texts a front of the log stands and nothing of the answer, or the whole log and a front of the answer
-pub record WritesOwn (file : List ℕ) (log : Option (List ℕ)) (before after : Desk) : Type 0 where
+-- the file is this formula, and of the texts of its run a front of the log stands and nothing of the answer, or the whole log
+-- and a front of the answer
+pub record WritesOwn (file : List ℕ) (log : Option (List ℕ)) (settings : Settings) (before after : Desk) : Type 0 where
   pub cnf : Cnf
   pub read : ReadsAs file before after cnf
-  pub texts : IsCutInLog log (log_text cnf) before.page after.page
-      ⊎ IsCutInAnswer log (log_text cnf) (answer_text (verdict_of cnf)) before.page after.page
+  pub texts : IsCutInLog log (log_text cnf settings) before.page after.page
+      ⊎ IsCutInAnswer log (log_text cnf settings) (answer_text (outcome_of cnf settings)) before.page after.page
 
 -- the job names no log
 abbrev pub HasNoLog : Option Job → Type 0
 HasNoLog None = Unit {0}
-HasNoLog (Some (Solve file None)) = Unit {0}
-HasNoLog (Some (Solve file (Some name))) = ⊥
+HasNoLog (Some (Solve file None settings)) = Unit {0}
+HasNoLog (Some (Solve file (Some name) settings)) = ⊥
 
 -- the statuses at which neither log nor answer is touched
 abbrev pub IsSilent : ℕ → Type 0
-IsSilent status = (status ≡ 1) ⊎ (status ≡ 2) ⊎ (status ≡ 3) ⊎ (status ≡ 7)
+IsSilent status = (status ≡ 1) ⊎ (status ≡ 2) ⊎ (status ≡ 3)
 
 -- what stands on the ports at every return: on log and answer the file's own texts, and the complaint of how the run ended
 pub record KeepsPorts (run : Run) : Type 0 where
   pub texts : ((desk_after run).page ≡ (desk_before run).page)
-      ⊎ OnSolve run.job (λ file log. WritesOwn file log (desk_before run) (desk_after run))
+      ⊎ OnSolve run.job (λ file log settings. WritesOwn file log settings (desk_before run) (desk_after run))
   pub silent : IsSilent run.status → (desk_after run).page ≡ (desk_before run).page
   pub no_log : HasNoLog run.job → log_told run.after ≡ log_told run.before
   pub complaint : Headline run
@@ -168,23 +183,28 @@ pub record IsCalm (run : Run) : Type 0 where
   pub log : ¬ Rose (run.before.at Log).faults (run.after.at Log).faults
   pub answer : ¬ Rose (run.before.at Answer).faults (run.after.at Answer).faults
 
+-- the run has the verdict of this status, and its log and answer are written
+pub record AnswersFormula (cnf : Cnf) (log : Option (List ℕ)) (settings : Settings) (run : Run) : Type 0 where
+  pub status : run.status ≡ verdict_status (outcome_of cnf settings).verdict
+  pub texts : WritesBoth log (log_text cnf settings) (answer_text (outcome_of cnf settings)) (desk_before run).page (desk_after run).page
+
+-- the file has this fault, and the complaint says so
+pub record RefusesFile (fault : CnfFault) (run : Run) : Type 0 where
+  pub status : run.status ≡ 2
+  pub complaint : Tells (complaint_of (Unread (reading.NoFormula fault))) (run.before.at Complaint) (run.after.at Complaint)
+
 -- the status and the texts of a file, which may be no formula; want of memory may always come
-abbrev pub AnswersFile : Result Cnf CnfFault → Option (List ℕ) → Run → Type 0
-AnswersFile (Ok cnf) log run =
-    (IsDecided (verdict_of cnf) → IsCalm run)
-    → ((run.status ≡ verdict_status (verdict_of cnf)) × HoldsTexts cnf log (verdict_of cnf) (desk_before run).page (desk_after run).page)
-    ⊎ (run.status ≡ 5)
-AnswersFile (Err fault) log run =
-    ((run.status ≡ 2) × Tells (complaint_of (Unread (reading.NoFormula fault))) (run.before.at Complaint) (run.after.at Complaint))
-    ⊎ (run.status ≡ 5)
+abbrev pub AnswersFile : Result Cnf CnfFault → Option (List ℕ) → Settings → Run → Type 0
+AnswersFile (Ok cnf) log settings run = IsCalm run → AnswersFormula cnf log settings run ⊎ (run.status ≡ 5)
+AnswersFile (Err fault) log settings run = RefusesFile fault run ⊎ (run.status ≡ 5)
 
 -- where the file is told and no call on its slot failed, its bytes alone decide
 abbrev pub IsComplete : Run → Type 0
 IsComplete run =
-    (file : List ℕ) (log : Option (List ℕ)) (bytes : List ℕ) → run.job ≡ Some (Solve file log)
+    (file : List ℕ) (log : Option (List ℕ)) (settings : Settings) (bytes : List ℕ) → run.job ≡ Some (Solve file log settings)
     → run.inputs_before.held Formula file ≡ Some bytes
     → ¬ Rose (run.inputs_before.at Formula).faults (run.inputs_after.at Formula).faults
-    → AnswersFile (formula_of bytes) log run
+    → AnswersFile (formula_of bytes) log settings run
 
 -- the sentences of a run, which follow from its record
 pub record Sentences (run : Run) : Type 0 where
@@ -192,7 +212,7 @@ pub record Sentences (run : Run) : Type 0 where
   pub solved : IsSolved run
   pub model : IsModel run
   pub refuted : IsRefutation run
-  pub unknown : IsNeverUnknown run
+  pub unknown : IsUnknown run
   pub refused : IsRefusal run
   pub ports : KeepsPorts run
   pub complete : IsComplete run

@@ -1,40 +1,97 @@
 -- Command lines: what the words after the program's name ask for.
-use Rattle.std.specs.Prelude.{◌≡◌, ℕ, ◌==◌, Bool, false, not, ◌&&◌, List, [], ◌∷◌, codes, Option, Some, None, Result, Ok, Err, if◌then◌else◌, bytes_eq}
+use Rattle.std.specs.Prelude.{◌≡◌, ℕ, ◌==◌, nat_le, Bool, true, false, not, ◌&&◌, ◌||◌, List, [], ◌∷◌, length, codes, Option, Some, None, option_map, option_and_then, Result, Ok, Err, if◌then◌else◌, bytes_eq}
+use Rattle.std.specs.List.{list_all}
+use Rattle.std.specs.Char.{is_ascii_digit}
+use Rattle.std.specs.Str.Parse.{digits_value}
+use Rattle.solo_core.specs.declared.sheet.Settings.{Settings}
+use Rattle.crew.specs.Run.{AreOfOneCore}
 use Rattle.dp2ll.specs.declared.words.Job.{Job}
 use Rattle.dp2ll.specs.declared.words.Job.TheVariants.{Solve}
 use Rattle.dp2ll.specs.declared.words.WordFault.{WordFault}
 use Rattle.dp2ll.specs.declared.words.WordFault.TheVariants.{Usage, NoMemory}
 
--- a file word is not empty and does not begin with `-`
+-- a word that names a file or is the value of an option is not empty and does not begin with `-`
 abbrev pub is_file_word : List ℕ → Bool
 is_file_word [] = false
 is_file_word (first ∷ others) = not (first == 45)
 
--- the options of `solve` on this file: none, or one file word for the log
-abbrev pub options_of : List ℕ → List (List ℕ) → Option Job
-options_of file [] = Some (Solve file None)
-options_of file (name ∷ []) = None
-options_of file (name ∷ value ∷ []) = if bytes_eq name (codes "--log") && is_file_word value then Some (Solve file (Some value)) else None
-options_of file (name ∷ value ∷ another ∷ others) = None
+-- == numbers ==
 
--- the arguments of `solve`: one file word, and then its options
+-- 1 to 20 decimal digits
+abbrev pub is_number : List ℕ → Bool
+is_number text = nat_le 1 (length text) && (nat_le (length text) 20 && list_all is_ascii_digit text)
+
+-- the number of a text, where it is one in this range
+abbrev pub number_of : ℕ → ℕ → List ℕ → Option ℕ
+number_of low high text =
+    if is_number text && (nat_le low (digits_value 10 text) && nat_le (digits_value 10 text) high) then Some (digits_value 10 text) else None
+
+-- the number that is given, or else this one
+abbrev pub number_or : ℕ → ℕ → ℕ → Option (List ℕ) → Option ℕ
+number_or low high otherwise None = Some otherwise
+number_or low high otherwise (Some text) = number_of low high text
+
+-- == options ==
+
+-- the options of `solve`: each is two words, its name and a value
+abbrev pub is_option : List ℕ → List ℕ → Bool
+is_option name value = (bytes_eq name (codes "--cores") || bytes_eq name (codes "--limit") || bytes_eq name (codes "--log")) && is_file_word value
+
+-- the words are options, one after the other
+abbrev pub are_options : List (List ℕ) → Bool
+are_options [] = true
+are_options (name ∷ []) = false
+are_options (name ∷ value ∷ later) = is_option name value && are_options later
+
+-- the values that options give under a name
+abbrev pub values_under : List ℕ → List (List ℕ) → List (List ℕ)
+values_under name [] = []
+values_under name (word ∷ []) = []
+values_under name (word ∷ value ∷ later) = if bytes_eq word name then value ∷ values_under name later else values_under name later
+
+-- a name is given at most once: the value under it, where there is one
+abbrev pub once : List (List ℕ) → Option (Option (List ℕ))
+once [] = Some None
+once (value ∷ []) = Some (Some value)
+once (value ∷ another ∷ more) = None
+
+-- the number under a name
+abbrev pub number_under : List ℕ → ℕ → ℕ → ℕ → List (List ℕ) → Option ℕ
+number_under name low high otherwise options = option_and_then (number_or low high otherwise) (once (values_under name options))
+
+-- the settings of so many cores with this limit; the others can't be chosen yet
+abbrev pub settings_with : ℕ → ℕ → Settings
+settings_with cores limit = record { cores = cores; period = 300; share = 8; limit = limit; seed = 0 }
+
+-- the settings that options give: one core, and at most so many conflicts of it
+abbrev pub settings_of : List (List ℕ) → Option Settings
+settings_of options =
+    option_and_then (λ cores. option_map (settings_with cores) (number_under (codes "--limit") 1 1000000000 10000000 options))
+    (number_under (codes "--cores") 1 1 1 options)
+
+-- == jobs ==
+
+-- `solve` on this file, with these settings and this log, where they are given
+abbrev pub solve_with : List ℕ → Option Settings → Option (Option (List ℕ)) → Option Job
+solve_with file settings log = option_and_then (λ s. option_map (λ name. Solve file name s) log) settings
+
+-- the arguments of `solve`: a file word, and then options
 abbrev pub solve_of : List (List ℕ) → Option Job
 solve_of [] = None
-solve_of (file ∷ options) = if is_file_word file then options_of file options else None
+solve_of (file ∷ options) =
+    if is_file_word file && are_options options then solve_with file (settings_of options) (once (values_under (codes "--log") options)) else None
 
 -- the job that the words ask for, or none where they are no command line
 abbrev pub job_of : List (List ℕ) → Option Job
 job_of [] = None
 job_of (command ∷ arguments) = if bytes_eq command (codes "solve") then solve_of arguments else None
 
+-- a job's settings are in their ranges, with one core
+abbrev pub IsInRange : Job → Type 0
+IsInRange (Solve file log settings) = AreOfOneCore settings
+
 -- reading the words gives their job, and a usage fault exactly where there is none
 abbrev pub ReadsWords : Option Job → Result Job WordFault → Type 0
 ReadsWords job (Ok read) = job ≡ Some read
 ReadsWords job (Err Usage) = job ≡ None
 ReadsWords job (Err NoMemory) = Unit {0}
-
--- a copy of a word, or want of memory
-abbrev pub CopiesWord : List ℕ → Result (List ℕ) WordFault → Type 0
-CopiesWord word (Ok copy) = copy ≡ word
-CopiesWord word (Err Usage) = ⊥
-CopiesWord word (Err NoMemory) = Unit {0}

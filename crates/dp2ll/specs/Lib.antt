@@ -1,5 +1,6 @@
 pub mod Job
 pub mod Ending
+pub mod Running
 pub mod Outcome
 pub mod Reading
 pub mod Logging

@@ -2,8 +2,8 @@
 use Rattle.std.specs.Prelude.{◌≡◌, ◌⊎◌, ℕ, List, [], ◌∷◌, ◌++◌, Option, Some, None, option_map, Result, Ok, Err}
 use Rattle.desk_io.specs.Told.{PortTold, OutputsTold, raised, Rose}
 use Rattle.desk_io.specs.declared.Port.TheVariants.{Log}
-use Rattle.desk_io.specs.declared.PortFault.{PortFault}
-use Rattle.desk_io.specs.declared.PortFault.TheVariants.{Failed, NoMemory}
+use Rattle.dp2ll.specs.declared.ending.WriteStop.{WriteStop}
+use Rattle.dp2ll.specs.declared.ending.WriteStop.TheVariants.{LogFault, AnswerFault, NoMemory}
 
 -- what the outputs tell of logs: the log port, the names that were created, and how many calls of `create` there were
 pub record LogTold : Type 0 where
@@ -63,13 +63,14 @@ abbrev pub LogsFault : Option (List ℕ) → List ℕ → LogTold → LogTold �
 LogsFault None text before after = ⊥
 LogsFault (Some name) text before after = FailsLog name text before after
 
--- a named log was cut short, or is not there
+-- a named log was cut short, or is not there; without one nothing of logs changed
 abbrev pub LogsPart : Option (List ℕ) → List ℕ → LogTold → LogTold → Type 0
-LogsPart None text before after = ⊥
+LogsPart None text before after = after ≡ before
 LogsPart (Some name) text before after = CutsLog name text before after ⊎ LacksLog before after
 
--- what each answer of writing the log says
-abbrev pub WritesLog : Option (List ℕ) → List ℕ → LogTold → LogTold → Result (Unit {0}) PortFault → Type 0
-WritesLog log text before after (Ok done) = LogsWhole log text before after
-WritesLog log text before after (Err Failed) = LogsFault log text before after
-WritesLog log text before after (Err NoMemory) = LogsPart log text before after
+-- what creating a log and writing this text to it leaves, by how it ended
+abbrev pub KeepsLog : Option (List ℕ) → List ℕ → LogTold → LogTold → Result (Unit {0}) WriteStop → Type 0
+KeepsLog log text before after (Ok done) = LogsWhole log text before after
+KeepsLog log text before after (Err LogFault) = LogsFault log text before after
+KeepsLog log text before after (Err AnswerFault) = ⊥
+KeepsLog log text before after (Err NoMemory) = LogsPart log text before after

@@ -1,66 +1,90 @@
-ghost use Rattle.std.specs.Prelude.{◌≡◌, Ok};
-ghost use Rattle.dp2ll.specs.Answering.{Answers, page_of, KeepsComplaint, WritesTexts, WritesVerdict};
-ghost use Rattle.dp2ll.specs.Outcome.{verdict_of};
+ghost use Rattle.std.specs.Prelude.{◌≡◌, ◌≤◌, [], IfOk};
+ghost use Rattle.desk_io.specs.declared.Port.TheVariants.{Answer, Log};
+ghost use Rattle.crew.specs.Run.{AreOfOneCore};
+ghost use Rattle.crew.specs.Log.{log_text};
+ghost use Rattle.crew.specs.Outcome.{outcome_of};
+ghost use Rattle.dp2ll.specs.Answering.{Answers, AnswersPort, page_of, KeepsComplaint};
+ghost use Rattle.dp2ll.specs.Logging.{KeepsLog, log_told};
+ghost use Rattle.dp2ll.specs.Outcome.{answer_text};
+ghost use Rattle.dp2ll.specs.Running.{without_outcome};
 
+use crate::backing::law_verdict_is_backed;
 use crate::ending::WriteStop;
-use crate::log::write_log;
-use crate::texts::{answer_text, log_text};
-use crate::verdict::{Verdict, decide};
+use crate::texts::answer_text;
+use crew::{Outcome, Verdict, run_turns};
 use desk_io::{Outputs, Port, PortFault, write_whole};
 use lit_base::{Formula, Text};
+use solo_core::Settings;
 use std::alloc::Global;
 
-/// Decides a formula by propagation on the empty trail, and writes log and answer where that decides it.
+/// Runs the cores on a formula, with its log where one is named, and writes the answer.
 pub(crate) fn answer<O: Outputs>(
     alloc: Global,
     formula: &Formula,
+    settings: &Settings,
     log: &Option<Text>,
     outputs: &mut O,
 ) -> Result<Verdict, WriteStop>
-    ensures answers { Answers formula.now log.now (page_of (O.told outputs.old)) (page_of (O.told outputs.new)) result }
+    requires { AreOfOneCore settings.now }
+    ensures answers { Answers formula.now settings.now log.now (page_of (O.told outputs.old)) (page_of (O.told outputs.new)) result }
     ensures complaint { KeepsComplaint (O.told outputs.old) (O.told outputs.new) }
 {
-    let verdict = decide(alloc, formula)?;
-    write_verdict(alloc, formula, &verdict, log, outputs)?;
-    Ok(verdict)
+    law_verdict_is_backed();
+    // for the checker alone: that the formula is one within the limits
+    let _ = formula.variables();
+    let outcome = run_logged(alloc, formula, settings, log, outputs)?;
+    write_answer(alloc, &outcome, outputs)?;
+    Ok(outcome.verdict)
 }
 
-/// Makes the texts of a verdict and writes them, where it is a model or a refutation.
-fn write_verdict<O: Outputs>(
+/// Creates the log, where one is named, and runs the cores, which write it.
+fn run_logged<O: Outputs>(
     alloc: Global,
     formula: &Formula,
-    verdict: &Verdict,
+    settings: &Settings,
     log: &Option<Text>,
     outputs: &mut O,
-) -> Result<(), WriteStop>
-    requires { verdict_of formula.now ≡ verdict.now }
-    ensures writes { WritesVerdict formula.now log.now verdict.now (page_of (O.told outputs.old)) (page_of (O.told outputs.new)) result }
+) -> Result<Outcome, WriteStop>
+    requires { AreOfOneCore settings.now }
+    ensures outcome { IfOk result (λ outcome. outcome ≡ outcome_of formula.now settings.now) }
+    ensures log { KeepsLog log.now (log_text formula.now settings.now) (log_told (O.told outputs.old)) (log_told (O.told outputs.new))
+        (without_outcome result) }
+    ensures answer { (O.told outputs.new).at Answer ≡ (O.told outputs.old).at Answer }
     ensures complaint { KeepsComplaint (O.told outputs.old) (O.told outputs.new) }
 {
-    if let Verdict::Undecided = verdict {
-        return Ok(());
-    }
-    let log_bytes = log_text(alloc, formula, verdict)?;
-    let answer_bytes = answer_text(alloc, verdict)?;
-    write_texts(outputs, log, log_bytes.as_slice(), answer_bytes.as_slice())
+    create_log(outputs, log)?;
+    Ok(run_turns(alloc, formula, settings, log.is_some(), outputs)?)
 }
 
-/// Writes the whole log, and only then the answer.
-fn write_texts<O: Outputs>(
-    outputs: &mut O,
-    log: &Option<Text>,
-    log_bytes: &[u8],
-    answer_bytes: &[u8],
-) -> Result<(), WriteStop>
-    ensures writes { WritesTexts log.now log_bytes.now answer_bytes.now (page_of (O.told outputs.old)) (page_of (O.told outputs.new)) result }
+/// Creates the log, empty, where one is named.
+fn create_log<O: Outputs>(outputs: &mut O, log: &Option<Text>) -> Result<(), WriteStop>
+    ensures log { KeepsLog log.now [] (log_told (O.told outputs.old)) (log_told (O.told outputs.new)) result }
+    ensures later { ((O.told outputs.old).at Log).faults ≤ ((O.told outputs.new).at Log).faults }
+    ensures answer { (O.told outputs.new).at Answer ≡ (O.told outputs.old).at Answer }
     ensures complaint { KeepsComplaint (O.told outputs.old) (O.told outputs.new) }
 {
-    match write_log(outputs, log, log_bytes) {
-        Ok(()) => {}
-        Err(PortFault::Failed) => return Err(WriteStop::LogFault),
-        Err(PortFault::NoMemory) => return Err(WriteStop::NoMemory),
+    let Some(name) = log else {
+        return Ok(());
+    };
+    match outputs.create(Port::Log, name.as_str()) {
+        Ok(()) => Ok(()),
+        Err(PortFault::Failed) => Err(WriteStop::LogFault),
+        Err(PortFault::NoMemory) => Err(WriteStop::NoMemory),
     }
-    match write_whole(outputs, Port::Answer, answer_bytes) {
+}
+
+/// Writes the answer of a run.
+fn write_answer<O: Outputs>(
+    alloc: Global,
+    outcome: &Outcome,
+    outputs: &mut O,
+) -> Result<(), WriteStop>
+    ensures answer { AnswersPort (answer_text outcome.now) ((O.told outputs.old).at Answer) ((O.told outputs.new).at Answer) result }
+    ensures log { log_told (O.told outputs.new) ≡ log_told (O.told outputs.old) }
+    ensures complaint { KeepsComplaint (O.told outputs.old) (O.told outputs.new) }
+{
+    let text = answer_text(alloc, outcome)?;
+    match write_whole(outputs, Port::Answer, text.as_slice()) {
         Ok(()) => Ok(()),
         Err(PortFault::Failed) => Err(WriteStop::AnswerFault),
         Err(PortFault::NoMemory) => Err(WriteStop::NoMemory),

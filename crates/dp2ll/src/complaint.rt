@@ -30,7 +30,7 @@ pub(crate) fn complain<O: Outputs>(alloc: Global, outputs: &mut O, ending: &Endi
     ensures others { page_of (O.told outputs.new) ≡ page_of (O.told outputs.old) }
 {
     match ending {
-        Ending::Answered(verdict) => verdict.status(),
+        Ending::Answered(_) => ending.status(),
         Ending::Usage => complain_aloud(outputs, USAGE.as_slice(), 1),
         Ending::Unread(stop) => complain_of_reading(alloc, outputs, *stop),
         Ending::Unwritten(stop) => complain_aloud(outputs, write_complaint(*stop), stop.status()),

@@ -1,8 +1,8 @@
 ghost use Rattle.std.specs.Prelude.{◌≡◌};
 ghost use Rattle.dp2ll.specs.Ending.{verdict_status, read_status, write_status, status_of};
 
-use crate::verdict::Verdict;
 use cnf_text::CnfFault;
+use crew::{Stop, Verdict};
 use lit_base::NoMemory;
 
 /// Why reading the file gave no formula.
@@ -28,9 +28,9 @@ pub(crate) enum WriteStop {
 }
 
 /// How a run of the program ends.
-#[derive(Debug, Drop)]
+#[derive(Clone, Copy, Debug, PartialEq, Eq)]
 pub(crate) enum Ending {
-    /// The formula has this verdict, and its log and answer are written.
+    /// The run of the formula has this verdict, and its log and answer are written.
     Answered(Verdict),
     /// The words are no command line.
     Usage,
@@ -75,6 +75,20 @@ impl From<NoMemory> for WriteStop {
     }
 }
 
+impl From<Stop> for WriteStop {
+    ghost use Rattle.std.specs.Prelude.{◌≡◌};
+    ghost use Rattle.dp2ll.specs.Running.{stop_of};
+
+    ghost from_gives = { λ stop write. write ≡ stop_of stop };
+
+    fn from(stop: Stop) -> WriteStop {
+        match stop {
+            Stop::NoMemory => WriteStop::NoMemory,
+            Stop::WriteFault => WriteStop::LogFault,
+        }
+    }
+}
+
 impl ReadStop {
     /// The exit status: 2, 3 or 5.
     pub(crate) fn status(self) -> u8
@@ -100,13 +114,24 @@ impl WriteStop {
     }
 }
 
+/// The exit status of a verdict: 10, 20 or 0.
+fn verdict_status(verdict: Verdict) -> u8
+    ensures { result ≡ verdict_status verdict }
+{
+    match verdict {
+        Verdict::Sat => 10,
+        Verdict::Unsat => 20,
+        Verdict::Unknown => 0,
+    }
+}
+
 impl Ending {
     /// The exit status: that of the verdict, else one of 1 to 5.
     pub(crate) fn status(&self) -> u8
         ensures { result ≡ status_of self.now }
     {
         match self {
-            Ending::Answered(verdict) => verdict.status(),
+            Ending::Answered(verdict) => verdict_status(*verdict),
             Ending::Usage => 1,
             Ending::Unread(stop) => stop.status(),
             Ending::Unwritten(stop) => stop.status(),

@@ -1,19 +1,16 @@
 //! dp2ll decides formulas in conjunctive normal form: `dp2ll solve FILE`.
 #![tactic(auto)]
 
-mod analyse;
 mod answer;
+mod backing;
 mod complaint;
 mod ending;
-mod log;
-mod propagate;
 mod read;
 mod run;
 #[cfg(test)]
 mod tests;
 mod texts;
 mod values;
-mod verdict;
 mod words;
 
 use complaint::complain;

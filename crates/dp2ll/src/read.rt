@@ -4,7 +4,7 @@ ghost use Rattle.desk_io.specs.declared.Slot.TheVariants.{Formula as FormulaSlot
 ghost use Rattle.dp2ll.specs.Reading.{BeginsFormula, Finds, KeepsBegun, ReadsPiece, ReadsPieces, StopsBy};
 
 use crate::ending::ReadStop;
-use cnf_text::{CnfFault, Reader};
+use cnf_text::{CnfFault, Reader, read_bytes_are_few, read_bytes_are_sound};
 use desk_io::{Inputs, Slot};
 use lit_base::{Formula, NoMemory};
 use std::alloc::Global;
@@ -27,6 +27,7 @@ pub(crate) fn read_formula<I: Inputs>(
     ensures found { Finds ((I.told inputs.old).held FormulaSlot file.now)
         ((I.told inputs.old).at FormulaSlot) ((I.told inputs.new).at FormulaSlot) result }
 {
+    read_bytes_are_sound();
     let mut reader = Reader::new(alloc);
     if inputs.begin(Slot::Formula, file).is_err() {
         return Err(ReadStop::ReadFault);
@@ -96,6 +97,8 @@ fn read_pieces<I: Inputs>(
     ensures kept { KeepsBegun (I.told inputs.old) (I.told inputs.new) }
     ensures pieces { ReadsPieces ((I.told inputs.old).at FormulaSlot) ((I.told inputs.new).at FormulaSlot) reader.new result }
 {
+    read_bytes_are_sound();
+    read_bytes_are_few();
     for _ in 0..MOST_TURNS {
         if read_piece(inputs, reader, buffer)? {
             return Ok(());

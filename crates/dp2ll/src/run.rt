@@ -1,4 +1,5 @@
 ghost use Rattle.std.specs.Prelude.{map, string_bytes};
+ghost use Rattle.crew.specs.Run.{AreOfOneCore};
 ghost use Rattle.dp2ll.specs.Answering.{KeepsComplaint};
 ghost use Rattle.dp2ll.specs.Serving.{Solves, Serves, desk, ending_of};
 ghost use Rattle.dp2ll.specs.Headline.{run_of, Headline, Sentences};
@@ -8,10 +9,12 @@ use crate::answer::answer;
 use crate::complaint::complain;
 use crate::ending::Ending;
 use crate::read::read_formula;
-use crate::verdict::Verdict;
 use crate::words::{Job, WordFault, read_words};
+use cnf_text::{early_fault_stays, end_ends_input};
+use crew::Verdict;
 use desk_io::{Gate, Inputs, Outputs};
 use lit_base::Text;
+use solo_core::Settings;
 use std::alloc::Global;
 use std::sync::Wait;
 use std::thread::Threads;
@@ -38,9 +41,9 @@ pub fn run<R: Threads + Wait + Sync, I: Inputs, O: Outputs, G: Gate>(
 /// Runs the program on the words after its name, and gives its exit status; it waits for nobody.
 ///
 /// Status 10: a model was printed. 20: there is none, and the proof was written where a log is
-/// named. 7: propagation decided nothing. 1: the words are no command line. 2: the file is no
-/// formula. 3: it could not be read. 4: log or answer could not be written. 5: memory could not be
-/// had.
+/// named. 0: unknown, since each core had all conflicts that it may have. 1: the words are no
+/// command line. 2: the file is no formula. 3: it could not be read. 4: log or answer could not be
+/// written. 5: memory could not be had.
 pub fn run_still<I: Inputs, O: Outputs>(
     alloc: Global,
     words: &[String],
@@ -50,6 +53,8 @@ pub fn run_still<I: Inputs, O: Outputs>(
     ensures headline { Headline (run_of words.now (I.told inputs.old) (I.told inputs.new) (O.told outputs.old) (O.told outputs.new) result) }
     ensures sentences { Sentences (run_of words.now (I.told inputs.old) (I.told inputs.new) (O.told outputs.old) (O.told outputs.new) result) }
 {
+    early_fault_stays();
+    end_ends_input();
     let ending = serve(alloc, words, inputs, outputs);
     complain(alloc, outputs, &ending)
 }
@@ -66,7 +71,11 @@ fn serve<I: Inputs, O: Outputs>(
     ensures complaint { KeepsComplaint (O.told outputs.old) (O.told outputs.new) }
 {
     match read_words(alloc, words) {
-        Ok(Job::Solve { file, log }) => match solve(alloc, file.as_str(), &log, inputs, outputs) {
+        Ok(Job::Solve {
+            file,
+            log,
+            settings,
+        }) => match solve(alloc, file.as_str(), &log, &settings, inputs, outputs) {
             Ok(verdict) => Ending::Answered(verdict),
             Err(ending) => ending,
         },
@@ -75,18 +84,20 @@ fn serve<I: Inputs, O: Outputs>(
     }
 }
 
-/// Reads the file as a formula, decides it and writes log and answer.
+/// Reads the file as a formula, runs the cores on it, and writes log and answer.
 fn solve<I: Inputs, O: Outputs>(
     alloc: Global,
     file: &str,
     log: &Option<Text>,
+    settings: &Settings,
     inputs: &mut I,
     outputs: &mut O,
 ) -> Result<Verdict, Ending>
-    ensures solves { Solves file.now log.now (desk (I.told inputs.old) (O.told outputs.old))
+    requires { AreOfOneCore settings.now }
+    ensures solves { Solves file.now log.now settings.now (desk (I.told inputs.old) (O.told outputs.old))
         (desk (I.told inputs.new) (O.told outputs.new)) (ending_of result) }
     ensures complaint { KeepsComplaint (O.told outputs.old) (O.told outputs.new) }
 {
     let formula = read_formula(alloc, file, inputs)?;
-    Ok(answer(alloc, &formula, log, outputs)?)
+    Ok(answer(alloc, &formula, settings, log, outputs)?)
 }

@@ -19,6 +19,8 @@ const PLAIN: [&str; 2] = ["solve", "f"];
 
 const LOGGED: [&str; 4] = ["solve", "f", "--log", "g"];
 
+const LIMITED: [&str; 6] = ["solve", "f", "--limit", "1", "--log", "g"];
+
 /// A formula's file, the status of `solve` on it, and what stands on the ports; a log of None is not created.
 ///
 /// `stop` is the byte with which reading has to stop, 0 where it has to go on to the end.
@@ -201,10 +203,10 @@ fn whole(case: &Case, grain: usize) -> Wanted<'static> {
     }
 }
 
-const OPEN: Case = Case {
+const NO_FORMULA: Case = Case {
     name: "",
     text: b"",
-    status: 7,
+    status: 2,
     answer: b"",
     log: None,
     complaint: b"",
@@ -214,18 +216,19 @@ const OPEN: Case = Case {
 const MODEL: Case = Case {
     status: 10,
     log: Some(b""),
-    ..OPEN
+    ..NO_FORMULA
 };
 
 const REFUTED: Case = Case {
     status: 20,
     answer: b"s UNSATISFIABLE\n",
-    ..OPEN
+    ..NO_FORMULA
 };
 
-const NO_FORMULA: Case = Case { status: 2, ..OPEN };
+/// Four clauses of two variables, of which no model makes all true.
+const SQUARE: &[u8] = b"p cnf 2 4\n1 2 0\n1 -2 0\n-1 2 0\n-1 -2 0\n";
 
-static CASES: [Case; 26] = [
+static CASES: [Case; 27] = [
     Case {
         name: "one unit",
         text: b"p cnf 1 1\n1 0\n",
@@ -282,24 +285,35 @@ static CASES: [Case; 26] = [
     },
     Case {
         name: "four clauses over two variables",
-        text: b"p cnf 2 4\n1 2 0\n1 -2 0\n-1 2 0\n-1 -2 0\n",
-        ..OPEN
+        text: SQUARE,
+        log: Some(b"5 1 0 1 2 0\n6 0 5 3 4 0\n"),
+        ..REFUTED
+    },
+    Case {
+        name: "a conflict on the way to a model",
+        text: b"p cnf 3 4\n1 2 0\n1 -2 3 0\n1 -2 -3 0\n2 3 0\n",
+        answer: b"s SATISFIABLE\nv 1 2 3 0\n",
+        log: Some(b"5 1 0 1 2 3 0\n"),
+        ..MODEL
     },
     Case {
         name: "a clause with a literal and its negation",
         text: b"p cnf 1 1\n1 -1 1 0\n",
-        ..OPEN
+        answer: b"s SATISFIABLE\nv -1 0\n",
+        ..MODEL
     },
     Case {
         name: "sixteen free variables",
         text: b"p cnf 16 0\n",
-        ..OPEN
+        answer: b"s SATISFIABLE\nv -1 -2 -3 -4 -5 -6 -7 -8 -9 -10 -11 -12 -13 -14 -15 -16\nv 0\n",
+        ..MODEL
     },
     Case {
         name: "satlib ending",
         text: b"c a small file\np cnf 3  2 \n1 -2 0\n-1 3 0\n%\n0\n\n",
+        answer: b"s SATISFIABLE\nv -1 -2 -3 0\n",
         stop: 42,
-        ..OPEN
+        ..MODEL
     },
     Case {
         name: "what follows the line that ends the input",
@@ -404,6 +418,21 @@ fn a_file_gives_the_same_for_every_cutting(rt: HostRuntime) -> Result<(), Fail> 
             run_on(&rt, alloc, &PLAIN, case.text, grain, NONE)?.is(&rt, &plain, case.name, grain);
         }
     }
+    Ok(())
+}
+
+/// With a limit of one conflict the same formula is given up behind its first lemma.
+#[test]
+fn a_spent_limit_is_unknown(rt: HostRuntime) -> Result<(), Fail> {
+    let wanted = Wanted {
+        status: 0,
+        answer: b"s UNKNOWN\n",
+        log: b"5 1 0 1 2 0\n",
+        complaint: b"",
+        names: 1,
+        reads: 2,
+    };
+    run_on(&rt, rt.alloc(), &LIMITED, SQUARE, 4096, NONE)?.is(&rt, &wanted, "limit", 4096);
     Ok(())
 }
 
@@ -589,7 +618,7 @@ static REFUSALS: [Refusal; 7] = [
 ];
 
 /// Words that are no command line.
-static FAULTY: [&[&str]; 14] = [
+static FAULTY: [&[&str]; 26] = [
     &[],
     &["solve"],
     &["solve", ""],
@@ -600,11 +629,47 @@ static FAULTY: [&[&str]; 14] = [
     &["solve", "f", "--log=g"],
     &["solve", "--log", "g", "f"],
     &["solve", "f", "--log", "g", "--log", "g"],
+    &["solve", "f", "--limit"],
+    &["solve", "f", "--limit", "0"],
+    &["solve", "f", "--limit", "1000000001"],
+    &["solve", "f", "--limit", "18446744073709551617"],
+    &["solve", "f", "--limit", "000000000000000000001"],
+    &["solve", "f", "--limit", "+1"],
+    &["solve", "f", "--limit", "1x"],
+    &["solve", "f", "--limit", "1", "--limit", "1"],
+    &["solve", "f", "--limit=1"],
+    &["solve", "f", "--cores", "2"],
+    &["solve", "f", "--cores", "0"],
+    &["solve", "f", "--seed", "1"],
     &["solve", "f", "g"],
     &["Solve", "f"],
     &["check", "f"],
     &["gen", "tower", "3"],
 ];
+
+/// Words that are the same command line as `solve f --log g`.
+static SAME: [&[&str]; 5] = [
+    &["solve", "f", "--cores", "1", "--log", "g"],
+    &["solve", "f", "--log", "g", "--limit", "1000000000"],
+    &["solve", "f", "--limit", "00000000000000000001", "--log", "g"],
+    &["solve", "f", "--limit", "7", "--cores", "01", "--log", "g"],
+    &["solve", "f", "--cores", "1", "--log", "g", "--limit", "3"],
+];
+
+/// Options stand in any order, and a number may have zeros before it.
+#[test]
+fn options_in_any_order(rt: HostRuntime) -> Result<(), Fail> {
+    let case = &CASES[CLASH];
+    for words in &SAME {
+        run_on(&rt, rt.alloc(), words, case.text, 4096, NONE)?.is(
+            &rt,
+            &whole(case, 4096),
+            "options",
+            4096,
+        );
+    }
+    Ok(())
+}
 
 #[test]
 fn the_first_refusal_decides(rt: HostRuntime) -> Result<(), Fail> {

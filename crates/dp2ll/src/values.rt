@@ -1,26 +1,23 @@
-ghost use Rattle.std.specs.Prelude.{◌≡◌, ◌+◌, ◌-◌, ◌*◌, ◌/◌, ◌≤◌, ◌++◌, ◌∷◌, length, take, drop, IfOk, OnOk};
+ghost use Rattle.std.specs.Prelude.{◌≡◌, ◌+◌, ◌-◌, ◌*◌, ◌/◌, ◌≤◌, ◌++◌, ◌∷◌, length, take, drop, OnOk};
 ghost use Rattle.lit_base.specs.Literal.{literal_text};
-ghost use Rattle.lit_base.specs.Text.{value_words, spaced, value_line};
-ghost use Rattle.dp2ll.specs.Outcome.{sat_text};
+ghost use Rattle.lit_base.specs.Text.{value_words, spaced, value_line, values_text};
 
 use itoa::Buffer;
 use lit_base::{Model, NoMemory};
-use std::alloc::Global;
 
 /// The most words that a `v` line has.
 const WORDS: usize = 16;
 
-/// The answer of a model: the `s` line, and the `v` lines of its values.
-pub(crate) fn sat_text(alloc: Global, model: &Model) -> Result<Vec<u8>, NoMemory>
-    ensures { IfOk result (λ text. text.items ≡ sat_text model.now) }
+/// Adds the `v` lines of a model.
+pub(crate) fn push_model(text: &mut Vec<u8>, model: &Model) -> Result<(), NoMemory>
+    ensures { OnOk result (text.new.items ≡ text.old.items ++ values_text model.now) }
 {
     let values = model.values();
     let lines = values.len() / WORDS + 1;
-    let mut text = Vec::from_slice(alloc, b"s SATISFIABLE\n")?;
     for line in 0..lines {
-        push_line(&mut text, values, line)?;
+        push_line(text, values, line)?;
     }
-    Ok(text)
+    Ok(())
 }
 
 /// Adds the `v` line of this number, counted from 0: sixteen words, or those that are left with the 0 that ends them.

@@ -1,14 +1,26 @@
-ghost use Rattle.std.specs.Prelude.{◌≡◌, ◌&&◌, map, string_bytes, bytes_eq, codes};
-ghost use Rattle.dp2ll.specs.Job.{job_of, is_file_word, ReadsWords, CopiesWord};
+ghost use Rattle.std.specs.Prelude.{◌≡◌, ◌≤◌, ◌&&◌, ◌||◌, map, string_bytes, bytes_eq, codes, option_map, IfSome, IfOk};
+ghost use Rattle.std.specs.List.{list_all};
+ghost use Rattle.std.specs.Char.{is_ascii_digit};
+ghost use Rattle.crew.specs.Run.{AreOfOneCore};
+ghost use Rattle.dp2ll.specs.Job.{job_of, solve_of, settings_of, is_number, number_of, number_or, number_under, is_file_word, is_option, are_options, values_under, once, IsInRange, ReadsWords};
 
-use lit_base::Text;
+use lit_base::{NoMemory, Text};
+use solo_core::Settings;
 use std::alloc::Global;
+
+/// The most digits of a number.
+const DIGITS: usize = 20;
 
 /// What a command line asks for.
 #[derive(Debug, Drop)]
 pub enum Job {
-    /// `solve FILE`: decide the formula in the file, and write the log to the file that `--log` names.
-    Solve { file: Text, log: Option<Text> },
+    /// `solve FILE`: decide the formula in the file with these settings, and write the log to the file that `--log`
+    /// names.
+    Solve {
+        file: Text,
+        log: Option<Text>,
+        settings: Settings,
+    },
 }
 
 /// Why words gave no job.
@@ -20,43 +32,166 @@ pub enum WordFault {
     NoMemory,
 }
 
-/// The job that the words after the program's name ask for: `solve`, one file word, and then at most `--log` and
-/// one file word. A file word is not empty and does not begin with `-`.
+impl From<NoMemory> for WordFault {
+    ghost use Rattle.std.specs.Prelude.{◌≡◌};
+    ghost use Rattle.dp2ll.specs.declared.words.WordFault.TheVariants as fault;
+
+    ghost from_gives = { λ _ f. f ≡ fault.NoMemory };
+
+    fn from(_error: NoMemory) -> WordFault {
+        WordFault::NoMemory
+    }
+}
+
+/// The job that the words after the program's name ask for: `solve`, one file word, and then options in any order, each at
+/// most once: `--cores` 1, `--limit` from 1 to 1,000,000,000 (10,000,000 without it), and `--log` with a file word.
+///
+/// A file word is not empty and does not begin with `-`; a number is 1 to 20 digits.
 pub fn read_words(alloc: Global, words: &[String]) -> Result<Job, WordFault>
-    ensures { ReadsWords (job_of (map string_bytes words.now)) result }
+    ensures job { ReadsWords (job_of (map string_bytes words.now)) result }
+    ensures range { IfOk result IsInRange }
 {
     match words {
-        [command, file] if command.as_str() == "solve" && is_file_word(file.as_str()) => {
-            Ok(Job::Solve {
-                file: copy_of(alloc, file)?,
-                log: None,
-            })
-        }
-        [command, file, name, log]
-            if command.as_str() == "solve" && is_file_word(file.as_str()) && is_log(name, log) => {
-            Ok(Job::Solve {
-                file: copy_of(alloc, file)?,
-                log: Some(copy_of(alloc, log)?),
-            })
-        }
+        [command, arguments @ ..] if command.as_str() == "solve" => read_solve(alloc, arguments),
         _ => Err(WordFault::Usage),
     }
 }
 
-/// Whether two words name a log.
-fn is_log(name: &String, log: &String) -> bool
-    ensures { result ≡ (bytes_eq (string_bytes name.now) (codes "--log") && is_file_word (string_bytes log.now)) }
+/// The job of `solve` with these arguments.
+fn read_solve(alloc: Global, arguments: &[String]) -> Result<Job, WordFault>
+    ensures job { ReadsWords (solve_of (map string_bytes arguments.now)) result }
+    ensures range { IfOk result IsInRange }
 {
-    name.as_str() == "--log" && is_file_word(log.as_str())
+    let [file, options @ ..] = arguments else {
+        return Err(WordFault::Usage);
+    };
+    if !is_file_word(file.as_str()) || !are_options(options) {
+        return Err(WordFault::Usage);
+    }
+    let Some(settings) = settings_of(options) else {
+        return Err(WordFault::Usage);
+    };
+    let Some(name) = value_under(options, "--log") else {
+        return Err(WordFault::Usage);
+    };
+    let log = match name {
+        Some(name) => Some(Text::of(alloc, name)?),
+        None => None,
+    };
+    Ok(Job::Solve {
+        file: Text::of(alloc, file.as_str())?,
+        log,
+        settings,
+    })
 }
 
-fn copy_of(alloc: Global, word: &String) -> Result<Text, WordFault>
-    ensures { CopiesWord (string_bytes word.now) result }
+/// The settings that options give, where their numbers are in their ranges.
+fn settings_of(options: &[String]) -> Option<Settings>
+    ensures settings { result ≡ settings_of (map string_bytes options.now) }
+    ensures range { IfSome result AreOfOneCore }
 {
-    Text::of(alloc, word.as_str()).map_err(|_| WordFault::NoMemory)
+    let cores = number_under(options, "--cores", 1, 1, 1)?;
+    let limit = number_under(options, "--limit", 1, 1_000_000_000, 10_000_000)?;
+    Some(Settings {
+        cores,
+        period: 300,
+        share: 8,
+        limit,
+        seed: 0,
+    })
 }
 
-/// Whether a word can name a file: it is not empty and does not begin with `-`.
+/// The number under this name, from `low` to `high`, or `otherwise` where there is none.
+fn number_under(
+    options: &[String],
+    name: &str,
+    low: u32,
+    high: u32,
+    otherwise: u32,
+) -> Option<u32>
+    requires low { low ≤ otherwise }
+    requires high { otherwise ≤ high }
+    ensures number { result ≡ number_under name.now low high otherwise (map string_bytes options.now) }
+    ensures within { IfSome result (λ n. (low ≤ n) × (n ≤ high)) }
+{
+    match value_under(options, name)? {
+        Some(text) => number_of(text, low, high),
+        None => Some(otherwise),
+    }
+}
+
+/// The number of a text of 1 to 20 digits, where it is one from `low` to `high`.
+fn number_of(text: &str, low: u32, high: u32) -> Option<u32>
+    ensures number { result ≡ number_of low high text.now }
+    ensures within { IfSome result (λ n. (low ≤ n) × (n ≤ high)) }
+{
+    if !is_number(text) {
+        return None;
+    }
+    let Ok(number) = text.parse::<u32>() else {
+        return None;
+    };
+    if low <= number && number <= high {
+        Some(number)
+    } else {
+        None
+    }
+}
+
+/// Whether a text is 1 to 20 digits.
+fn is_number(text: &str) -> bool
+    ensures { result ≡ is_number text.now }
+{
+    !text.is_empty() && text.len() <= DIGITS && are_digits(text.as_bytes())
+}
+
+/// Whether all bytes are decimal digits.
+fn are_digits(bytes: &[u8]) -> bool
+    ensures { result ≡ list_all is_ascii_digit bytes.now }
+{
+    bytes.iter().all(|byte| byte.is_ascii_digit())
+}
+
+/// Whether words are options of `solve`, one after the other.
+fn are_options(words: &[String]) -> bool
+    ensures { result ≡ are_options (map string_bytes words.now) }
+{
+    let mut rest = words;
+    while let [name, value, later @ ..] = rest {
+        if !is_option(name.as_str(), value.as_str()) {
+            return false;
+        }
+        rest = later;
+    }
+    rest.is_empty()
+}
+
+/// Whether two words are an option of `solve` and its value.
+fn is_option(name: &str, value: &str) -> bool
+    ensures { result ≡ is_option name.now value.now }
+{
+    (name == "--cores" || name == "--limit" || name == "--log") && is_file_word(value)
+}
+
+/// The value that options give under this name, where there is one; None where there are several.
+fn value_under<'a>(words: &'a [String], name: &str) -> Option<Option<&'a str>>
+    ensures { option_map (option_map (λ value. value.now)) result ≡ once (values_under name.now (map string_bytes words.now)) }
+{
+    let mut found = None;
+    let mut rest = words;
+    while let [word, value, later @ ..] = rest {
+        if word.as_str() == name {
+            if found.is_some() {
+                return None;
+            }
+            found = Some(value.as_str());
+        }
+        rest = later;
+    }
+    Some(found)
+}
+
+/// Whether a word can name a file, or be the value of an option: it is not empty and does not begin with `-`.
 fn is_file_word(word: &str) -> bool
     ensures { result ≡ is_file_word word.now }
 {

@@ -6,13 +6,13 @@ use Rattle.dp2ll.proofs.read.read_formula.Goals as goal
 -- the file could not be begun
 pub returns-then-is_err-clause-found : goal.returns-then-is_err-clause-found
 returns-then-is_err-clause-found g c =
-    unbegun ((g.I.Inputs.told c.args.inputs.now).held Formula c.args.file.now) ((g.I.Inputs.told c.args.inputs.now).at Formula)
+    unbegun c.read_bytes_are_sound.ensures ((g.I.Inputs.told c.args.inputs.now).held Formula c.args.file.now) ((g.I.Inputs.told c.args.inputs.now).at Formula)
     ((g.I.Inputs.told c.begin.new.self).at Formula) c.new-reader.result c.new-reader.ensures c.begin.ensures.left (search rules)
 
 -- memory was refused to the buffer
 pub returns-in-Err-clause-found : goal.returns-in-Err-clause-found
 returns-in-Err-clause-found g c =
-    unread ((g.I.Inputs.told c.args.inputs.now).held Formula c.args.file.now) ((g.I.Inputs.told c.args.inputs.now).at Formula)
+    unread c.read_bytes_are_sound.ensures ((g.I.Inputs.told c.args.inputs.now).held Formula c.args.file.now) ((g.I.Inputs.told c.args.inputs.now).at Formula)
     ((g.I.Inputs.told c.begin.new.self).at Formula) c.new-reader.result c.new-reader.ensures c.begin.ensures.left
 
 -- all pieces were read, and are a formula

@@ -4,7 +4,7 @@ use Rattle.dp2ll.proofs.read.read_pieces.Goals as goal
 
 -- nothing was taken yet
 pub loop-init : goal.loop-init
-loop-init g c = reading_starts (g.I.Inputs.told c.args.inputs.now) c.args.reader.now c.requires.fresh
+loop-init g c = reading_starts c.read_bytes_are_sound.ensures (g.I.Inputs.told c.args.inputs.now) c.args.reader.now c.requires.fresh
 
 -- one piece more
 pub loop-preserved : goal.loop-preserved
@@ -34,5 +34,5 @@ returns-then-branch-clause-pieces g c =
 -- no more turns than a formula may have bytes
 pub unreachable-requires : goal.unreachable-requires
 unreachable-requires g c =
-    turns_bounded (g.I.Inputs.told c.args.inputs.now) (g.I.Inputs.told c.loop.inputs) c.loop.reader c.loop.counter c.loop-test.false
+    turns_bounded c.read_bytes_are_few.ensures (g.I.Inputs.told c.args.inputs.now) (g.I.Inputs.told c.loop.inputs) c.loop.reader c.loop.counter c.loop-test.false
     c.loop.invariant
