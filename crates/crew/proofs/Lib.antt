@@ -1,0 +1,5 @@
+pub mod OneCore
+pub mod OneLog
+pub mod OneOutcome
+pub mod HaveNumbers
+pub mod Writings

@@ -1,0 +1,5 @@
+use Rattle.crew.proofs.OneOutcome.{ends_agree}
+use Rattle.crew.proofs.laws.law_ends_agree.Goals as goal
+
+pub returns : goal.returns
+returns c = ends_agree

@@ -1,0 +1,6 @@
+pub mod Era
+pub mod Run
+pub mod Log
+pub mod Outcome
+pub mod Turns
+pub mod Laws

@@ -1,0 +1,46 @@
+//! What the definitions of a run give on a small formula, computed.
+ghost use Rattle.std.specs.Prelude.{◌≡◌, true, false, [], ◌∷◌, map, Some, None};
+ghost use Rattle.lit_base.specs.Examples.{plain, square, addition, ending};
+ghost use Rattle.solo_core.specs.declared.sheet.End.TheVariants as end;
+ghost use Rattle.crew.specs.declared.outcome.Verdict.TheVariants.{Unsat, Unknown};
+ghost use Rattle.crew.specs.Era.{mails_of, is_over, after_era};
+ghost use Rattle.crew.specs.Run.{last_ends};
+ghost use Rattle.crew.specs.Log.{log_lines};
+ghost use Rattle.crew.specs.Outcome.{outcome_of};
+ghost use Rattle.crew.specs.Laws.{of_cores, brief_pair};
+
+/// One core refutes the four clauses of two variables with two lemmas.
+pub fn law_square_is_refuted()
+    ensures outcome { outcome_of square (of_cores 1 3) ≡
+        record { verdict = Unsat; eras = 1; winner = Some 0; model = None; lemmas = 2 } }
+    ensures lines { log_lines square (of_cores 1 3) ≡ addition 1 5 (plain 1 ∷ []) (1 ∷ 2 ∷ []) ∷ ending 2 6 (5 ∷ 3 ∷ 4 ∷ []) ∷ [] }
+{}
+
+/// With a limit of one conflict it is given up after the first of them.
+pub fn law_square_is_given_up_at_the_limit()
+    ensures outcome { outcome_of square (of_cores 1 1) ≡
+        record { verdict = Unknown; eras = 1; winner = None; model = None; lemmas = 1 } }
+    ensures lines { log_lines square (of_cores 1 1) ≡ addition 1 5 (plain 1 ∷ []) (1 ∷ 2 ∷ []) ∷ [] }
+{}
+
+/// Of two cores that refute it in one era the first wins, and its lemmas alone stand in the log. Where both
+/// have spent their limit all lemmas stand, those of the first core before those of the second.
+pub fn law_two_cores_in_turn()
+    ensures outcome { outcome_of square (of_cores 2 3) ≡
+        record { verdict = Unsat; eras = 1; winner = Some 0; model = None; lemmas = 2 } }
+    ensures ends { last_ends square (of_cores 2 3) ≡ end.Unsat ∷ end.Unsat ∷ [] }
+    ensures lines { log_lines square (of_cores 2 3) ≡ addition 1 5 (plain 1 ∷ []) (1 ∷ 2 ∷ []) ∷ ending 2 6 (5 ∷ 3 ∷ 4 ∷ []) ∷ [] }
+    ensures spent { outcome_of square (of_cores 2 1) ≡
+        record { verdict = Unknown; eras = 1; winner = None; model = None; lemmas = 2 } }
+    ensures spent_lines { log_lines square (of_cores 2 1) ≡ addition 1 5 (plain 1 ∷ []) (1 ∷ 2 ∷ []) ∷ addition 2 6 (plain 1 ∷ []) (1 ∷ 2 ∷ []) ∷ [] }
+{}
+
+/// Two cores with a quota of one conflict are not over after it. They go on in the next period, in which
+/// each may have as many conflicts as its volume allows beside that of the fuller one.
+pub fn law_two_cores_go_on()
+    ensures goes_on { is_over (mails_of (brief_pair 1 1)) ≡ false }
+    ensures over { is_over (mails_of (brief_pair 1 2)) ≡ true }
+    ensures period { map (λ m. m.state.period) (after_era 300 (brief_pair 1 1)) ≡ 2 ∷ 2 ∷ [] }
+    ensures same { map (λ m. m.quota) (after_era 300 (brief_pair 1 1)) ≡ 300 ∷ 300 ∷ [] }
+    ensures longer { map (λ m. m.quota) (after_era 300 (brief_pair 0 1)) ≡ 600 ∷ 300 ∷ [] }
+{}

@@ -1,0 +1,74 @@
+//! What makes the answer of a run right: laws of the definitions, as functions that do nothing and whose
+//! contracts state them.
+ghost use Rattle.std.specs.Prelude.{◌≡◌, ◌<◌, ◌≤◌, ℕ, ◌+◌, ◌↔◌, Bool, true, IsOk, IsSome, List, length, Some, slice_get};
+ghost use Rattle.std.specs.List.{AllByRecursion};
+ghost use Rattle.lit_base.specs.Cnf.{Cnf, IsFormula};
+ghost use Rattle.lit_base.specs.Truth.{Satisfies};
+ghost use Rattle.lit_base.specs.Judgement.{judge, Checks, HasNoModel};
+ghost use Rattle.solo_core.specs.Log.{AreNumbered};
+ghost use Rattle.solo_core.specs.Soundness.{EndsEmpty};
+ghost use Rattle.solo_core.specs.declared.sheet.End.TheVariants as end;
+ghost use Rattle.solo_core.specs.declared.sheet.Settings.{Settings};
+ghost use Rattle.log_merge.specs.Numbering.{number_of};
+ghost use Rattle.crew.specs.declared.outcome.Verdict.TheVariants.{Sat, Unsat, Unknown};
+ghost use Rattle.crew.specs.Era.{is_over};
+ghost use Rattle.crew.specs.Run.{mails_at, HasEra, last_era, last_ends, AreOfOneCore};
+ghost use Rattle.crew.specs.Log.{log_of, numbering_of_run, log_lines};
+ghost use Rattle.crew.specs.Outcome.{outcome_of};
+
+/// The last era is one of the run and ends it, and no other era does. There are no more eras than
+/// conflicts that a core may have; one core has one era.
+pub fn law_run_ends()
+    ensures has { (cnf : Cnf) (settings : Settings) → AreOfOneCore settings → HasEra cnf settings (last_era cnf settings) }
+    ensures over { (cnf : Cnf) (settings : Settings) → AreOfOneCore settings →
+        is_over (mails_at cnf settings (last_era cnf settings)) ≡ true }
+    ensures only { (cnf : Cnf) (settings : Settings) (past : ℕ) → AreOfOneCore settings →
+        HasEra cnf settings past → is_over (mails_at cnf settings past) ≡ true → past ≡ last_era cnf settings }
+    ensures within { (cnf : Cnf) (settings : Settings) → AreOfOneCore settings → last_era cnf settings < settings.limit }
+    ensures first { (cnf : Cnf) (settings : Settings) → AreOfOneCore settings → last_era cnf settings ≡ 0 }
+{}
+
+/// Whatever the verdict, the lemmas of the log have the numbers behind those of the originals, in their
+/// order and without a gap, and each line follows at its place.
+pub fn law_log_follows()
+    ensures numbered { (cnf : Cnf) (settings : Settings) → IsFormula cnf → AreOfOneCore settings →
+        AreNumbered (number_of (numbering_of_run cnf settings)) (length cnf.clauses + 1) (log_of cnf settings) }
+    ensures in_order { (cnf : Cnf) (settings : Settings) → IsFormula cnf → AreOfOneCore settings →
+        IsOk (judge cnf (log_lines cnf settings)) }
+    ensures counted { (cnf : Cnf) (settings : Settings) → AreOfOneCore settings →
+        (outcome_of cnf settings).lemmas ≡ length (log_of cnf settings) }
+{}
+
+/// Where the verdict is Unsat the last line of the log, and no earlier one, is the empty lemma. The log
+/// is then a proof that checks, and no model satisfies the formula.
+pub fn law_unsat_is_refuted()
+    ensures empty_last { (cnf : Cnf) (settings : Settings) → IsFormula cnf → AreOfOneCore settings →
+        (outcome_of cnf settings).verdict ≡ Unsat → EndsEmpty (log_of cnf settings) }
+    ensures checks { (cnf : Cnf) (settings : Settings) → IsFormula cnf → AreOfOneCore settings →
+        (outcome_of cnf settings).verdict ≡ Unsat → Checks cnf (log_lines cnf settings) }
+    ensures no_model { (cnf : Cnf) (settings : Settings) → IsFormula cnf → AreOfOneCore settings →
+        (outcome_of cnf settings).verdict ≡ Unsat → HasNoModel cnf }
+{}
+
+/// There is a model exactly where the verdict is Sat. It has a value for each variable, and satisfies the
+/// formula.
+pub fn law_model_satisfies_formula()
+    ensures exactly { (cnf : Cnf) (settings : Settings) → AreOfOneCore settings →
+        IsSome (outcome_of cnf settings).model ↔ ((outcome_of cnf settings).verdict ≡ Sat) }
+    ensures values { (cnf : Cnf) (settings : Settings) (model : List Bool) → AreOfOneCore settings →
+        (outcome_of cnf settings).model ≡ Some model → length model ≡ cnf.variables }
+    ensures satisfied { (cnf : Cnf) (settings : Settings) (model : List Bool) → IsFormula cnf → AreOfOneCore settings →
+        (outcome_of cnf settings).model ≡ Some model → Satisfies model cnf }
+{}
+
+/// The verdict is Unknown exactly where every core has spent its limit.
+pub fn law_unknown_where_all_are_spent()
+    ensures { (cnf : Cnf) (settings : Settings) → AreOfOneCore settings →
+        ((outcome_of cnf settings).verdict ≡ Unknown) ↔ AllByRecursion (λ e. e ≡ end.Spent) (last_ends cnf settings) }
+{}
+
+/// No core ends with Sat where another ends with Unsat.
+pub fn law_ends_agree()
+    ensures { (cnf : Cnf) (settings : Settings) (i j : ℕ) → IsFormula cnf → AreOfOneCore settings →
+        slice_get (last_ends cnf settings) i ≡ Some end.Sat → slice_get (last_ends cnf settings) j ≡ Some end.Unsat → ⊥ }
+{}
