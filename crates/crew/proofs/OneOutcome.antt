@@ -1,6 +1,6 @@
 -- The outcome of a run of one core is read from its sheet.
-use Rattle.std.proofs.Common.{◌≡◌, ℕ, zero, suc, ◌+◌, ◌<◌, Bool, true, false, cond, List, [], ◌∷◌, length, refl, ap, sym, ◌∙◌, subst, arith}
-use Rattle.std.specs.Prelude.{◌↔◌, ⊤, Option, Some, None, option_map, IsSome, IsNone, slice_get}
+use Rattle.std.proofs.Common.{◌≡◌, ℕ, zero, suc, ◌<◌, Bool, true, false, cond, List, [], ◌∷◌, length, refl, ap, sym, ◌∙◌, subst, arith}
+use Rattle.std.specs.Prelude.{◌↔◌, Option, Some, None, option_map, IsSome, IsNone, slice_get}
 use Rattle.std.specs.List.{AllByRecursion}
 use Rattle.std.proofs.lemmas.Option.{same_Some, none-some}
 use Rattle.lit_base.specs.Cnf.{Cnf, IsFormula}
@@ -19,12 +19,11 @@ use Rattle.solo_core.specs.declared.sheet.Settings.{Settings}
 use Rattle.solo_core.proofs.DerivedTrue.{unsat_refutes}
 use Rattle.solo_core.proofs.FirstState.{first_sound, first_holds}
 use Rattle.solo_core.proofs.Sheets.{sheet_model_exactly, sheet_model_satisfies}
-use Rattle.crew.specs.declared.outcome.Verdict.{Verdict}
 use Rattle.crew.specs.declared.outcome.Verdict.TheVariants.{Sat, Unsat, Unknown}
 use Rattle.crew.specs.declared.outcome.Outcome.{Outcome}
 use Rattle.crew.specs.Era.{stretched, sheet_left, sheets_of, is_answer}
 use Rattle.crew.specs.Run.{members_at, last_ends, AreOfOneCore}
-use Rattle.crew.specs.Log.{all_joined, parts_at, log_of, log_lines}
+use Rattle.crew.specs.Log.{all_joined, log_of, log_lines}
 use Rattle.crew.specs.Outcome.{winning_sheet, verdict_at, verdict_of, model_in, outcome_from, outcome_at, outcome_of}
 use Rattle.crew.proofs.OneCore.{sole, sole_lemmas, members_one, never_quota, last_era_one, ends_one, first_parts}
 use Rattle.crew.proofs.OneLog.{one_part, run_ends_empty, run_checks}
