@@ -1,6 +1,6 @@
 -- The names in the log of a run of one core have numbers once its period has ended.
-use Rattle.std.proofs.Common.{◌≡◌, inl, ℕ, zero, suc, ◌+◌, ◌<◌, ◌≤◌, Bool, true, false, cond, List, [], ◌∷◌, ◌++◌, length, refl, sym, subst, All, arith}
-use Rattle.std.specs.Prelude.{⊤, Some, None, IsSome}
+use Rattle.std.proofs.Common.{◌≡◌, inl, ℕ, suc, ◌+◌, ◌≤◌, Bool, true, false, cond, List, [], ◌∷◌, ◌++◌, length, refl, subst, All, arith}
+use Rattle.std.specs.Prelude.{Some, IsSome}
 use Rattle.std.specs.List.{AllByRecursion}
 use Rattle.std.proofs.lemmas.List.Elements.{All-nil, All-cons}
 use Rattle.lit_base.specs.Literal.{Literal}

@@ -1,5 +1,5 @@
 -- The log of a run of one core is what its stretch derived.
-use Rattle.std.proofs.Common.{◌≡◌, ℕ, ◌+◌, ◌≤◌, List, [], ◌∷◌, ◌++◌, length, append-nil, refl, ap, sym, ◌∙◌, subst, arith}
+use Rattle.std.proofs.Common.{◌≡◌, ◌+◌, List, [], ◌∷◌, ◌++◌, length, append-nil, sym, ◌∙◌, subst, arith}
 use Rattle.std.specs.Prelude.{IsOk}
 use Rattle.lit_base.specs.Cnf.{Cnf, IsFormula}
 use Rattle.lit_base.specs.Rounds.{originals}
@@ -12,12 +12,12 @@ use Rattle.solo_core.specs.declared.sheet.Settings.{Settings}
 use Rattle.solo_core.proofs.FirstState.{first_sound}
 use Rattle.solo_core.proofs.LogChecks.{log_in_order, log_checks}
 use Rattle.solo_core.proofs.StretchSound.{stretch_derived, stretch_named, stretch_empty}
-use Rattle.log_merge.specs.Numbering.{Numbering, number_before, number_of}
+use Rattle.log_merge.specs.Numbering.{Numbering, number_of}
 use Rattle.log_merge.proofs.FollowOn.{numbers_originals, numbered_in_core, first_core}
 use Rattle.crew.specs.Era.{stretched}
 use Rattle.crew.specs.Run.{AreOfOneCore}
 use Rattle.crew.specs.Log.{all_joined, log_of, numbering_at, numbering_of_run, log_lines}
-use Rattle.crew.proofs.OneCore.{sole, sole_lemmas, first_parts, run_parts}
+use Rattle.crew.proofs.OneCore.{sole, sole_lemmas, run_parts}
 
 -- the numbering of its log
 abbrev pub sole_numbering : Cnf → Settings → Numbering

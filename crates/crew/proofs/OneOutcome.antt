@@ -1,6 +1,6 @@
 -- The outcome of a run of one core is read from its sheet.
-use Rattle.std.proofs.Common.{◌≡◌, ℕ, zero, suc, ◌+◌, Bool, true, false, cond, List, [], ◌∷◌, length, refl, ap, sym, ◌∙◌, subst}
-use Rattle.std.specs.Prelude.{◌↔◌, ⊤, Option, Some, None, option_map, IsSome, slice_get}
+use Rattle.std.proofs.Common.{◌≡◌, ℕ, zero, suc, ◌<◌, Bool, true, false, cond, List, [], ◌∷◌, length, refl, ap, sym, ◌∙◌, subst, arith}
+use Rattle.std.specs.Prelude.{◌↔◌, Option, Some, None, option_map, IsSome, IsNone, slice_get}
 use Rattle.std.specs.List.{AllByRecursion}
 use Rattle.std.proofs.lemmas.Option.{same_Some, none-some}
 use Rattle.lit_base.specs.Cnf.{Cnf, IsFormula}
@@ -19,12 +19,11 @@ use Rattle.solo_core.specs.declared.sheet.Settings.{Settings}
 use Rattle.solo_core.proofs.DerivedTrue.{unsat_refutes}
 use Rattle.solo_core.proofs.FirstState.{first_sound, first_holds}
 use Rattle.solo_core.proofs.Sheets.{sheet_model_exactly, sheet_model_satisfies}
-use Rattle.crew.specs.declared.outcome.Verdict.{Verdict}
 use Rattle.crew.specs.declared.outcome.Verdict.TheVariants.{Sat, Unsat, Unknown}
 use Rattle.crew.specs.declared.outcome.Outcome.{Outcome}
-use Rattle.crew.specs.Era.{stretched, sheet_left, sheets_of, is_answer, winner_of}
+use Rattle.crew.specs.Era.{stretched, sheet_left, sheets_of, is_answer}
 use Rattle.crew.specs.Run.{members_at, last_ends, AreOfOneCore}
-use Rattle.crew.specs.Log.{all_joined, parts_at, log_of, log_lines}
+use Rattle.crew.specs.Log.{all_joined, log_of, log_lines}
 use Rattle.crew.specs.Outcome.{winning_sheet, verdict_at, verdict_of, model_in, outcome_from, outcome_at, outcome_of}
 use Rattle.crew.proofs.OneCore.{sole, sole_lemmas, members_one, never_quota, last_era_one, ends_one, first_parts}
 use Rattle.crew.proofs.OneLog.{one_part, run_ends_empty, run_checks}
@@ -40,10 +39,6 @@ verdict_by sheet end.Spent is = refl
 verdict_one : (sheet : Sheet) → verdict_of (winning_sheet (sheet ∷ [])) ≡ verdict_at sheet.mail.end
 verdict_one sheet = verdict_by sheet sheet.mail.end refl
 
-winner_by : (sheet : Sheet) (b : Bool) → option_map (λ mail. mail.core) (cond b (Some sheet.mail) None) ≡ option_map (λ (s : Sheet). s.mail.core) (cond b (Some sheet) None)
-winner_by sheet true = refl
-winner_by sheet false = refl
-
 no_model : (model : Option (List Bool)) → (IsSome model → ⊥) → model ≡ None
 no_model None none = refl
 no_model (Some model) none = absurd (none refl)
@@ -57,24 +52,6 @@ model_by sheet end.Spent found = no_model sheet.model (λ some. let is : end.Spe
 -- the model of a sheet that has one exactly at Sat is that of the run
 pub model_one : (sheet : Sheet) → IsSome sheet.model ↔ (sheet.mail.end ≡ end.Sat) → sheet.model ≡ model_in (winning_sheet (sheet ∷ []))
 model_one sheet exactly = model_by sheet sheet.mail.end exactly.0
-
-same_parts : (v w : Verdict) (a b : Option ℕ) (m n : Option (List Bool)) (eras lemmas : ℕ) → v ≡ w → a ≡ b → m ≡ n →
-    (let o : Outcome = record { verdict = v; eras = eras; winner = a; model = m; lemmas = lemmas } in o) ≡ record { verdict = w; eras = eras; winner = b; model = n; lemmas = lemmas }
-same_parts v w a b m n eras lemmas verdict winner model = cc
-
--- so the outcome can be put together from the sheet
-pub outcome_one : (sheet : Sheet) (lemmas : ℕ) → IsSome sheet.model ↔ (sheet.mail.end ≡ end.Sat) →
-    (let o : Outcome = record {
-      verdict = verdict_at sheet.mail.end;
-      eras = 1;
-      winner = option_map (λ mail. mail.core) (winner_of (sheet.mail ∷ []));
-      model = sheet.model;
-      lemmas = lemmas;
-    } in o) ≡ outcome_from 1 lemmas (sheet ∷ [])
-outcome_one sheet lemmas exactly =
-    same_parts (verdict_at sheet.mail.end) (verdict_of (winning_sheet (sheet ∷ []))) (option_map (λ mail. mail.core) (winner_of (sheet.mail ∷ [])))
-    (option_map (λ (s : Sheet). s.mail.core) (winning_sheet (sheet ∷ []))) sheet.model (model_in (winning_sheet (sheet ∷ []))) 1 lemmas
-    (sym (verdict_one sheet)) (winner_by sheet (is_answer sheet.mail.end)) (model_one sheet exactly)
 
 -- == the outcome of the run ==
 
@@ -97,6 +74,54 @@ sole_exactly cnf settings = let m = sole cnf settings in sheet_model_exactly m.f
 pub run_model : (cnf : Cnf) (settings : Settings) → AreOfOneCore settings → (outcome_of cnf settings).model ≡ (sole_sheet cnf settings).model
 run_model cnf settings are =
     ap (λ (o : Outcome). o.model) (run_outcome cnf settings are) ∙ sym (model_one (sole_sheet cnf settings) (sole_exactly cnf settings))
+
+-- == the winner ==
+
+-- the winner's number by the core's end
+abbrev winner_at : End → Option ℕ
+winner_at e = cond (is_answer e) (Some 0) None
+
+-- the core's number, where its end is an answer
+won_by : (sheet : Sheet) (b : Bool) → option_map (λ (s : Sheet). s.mail.core) (cond b (Some sheet) None) ≡ cond b (Some sheet.mail.core) None
+won_by sheet true = refl
+won_by sheet false = refl
+
+run_winner : (cnf : Cnf) (settings : Settings) → AreOfOneCore settings → (outcome_of cnf settings).winner ≡ winner_at (stretched (sole cnf settings)).ended
+run_winner cnf settings are =
+    ap (λ (o : Outcome). o.winner) (run_outcome cnf settings are) ∙ won_by (sole_sheet cnf settings) (is_answer (stretched (sole cnf settings)).ended)
+
+nobody_by : (e : End) → IsNone (winner_at e) ↔ (verdict_at e ≡ Unknown)
+nobody_by end.Quota = (λ none. refl, λ is. refl)
+nobody_by end.Sat = (λ none. cc, λ is. cc)
+nobody_by end.Unsat = (λ none. cc, λ is. cc)
+nobody_by end.Spent = (λ none. refl, λ is. refl)
+
+pub winner_exactly : (cnf : Cnf) (settings : Settings) → AreOfOneCore settings → IsNone (outcome_of cnf settings).winner ↔ ((outcome_of cnf settings).verdict ≡ Unknown)
+winner_exactly cnf settings are =
+    let by = nobody_by (stretched (sole cnf settings)).ended in (
+      λ none. run_verdict cnf settings are ∙ by.0 (subst (λ winner. IsNone winner) (run_winner cnf settings are) none),
+      λ is. subst (λ winner. IsNone winner) (sym (run_winner cnf settings are)) (by.1 (sym (run_verdict cnf settings are) ∙ is)),
+    )
+
+-- it is core 0
+first_by : (e : End) (w : ℕ) → winner_at e ≡ Some w → w ≡ 0
+first_by end.Quota w is = absurd (none-some w is)
+first_by end.Sat w is = sym (same_Some 0 w is)
+first_by end.Unsat w is = sym (same_Some 0 w is)
+first_by end.Spent w is = absurd (none-some w is)
+
+winner_first : (cnf : Cnf) (settings : Settings) (w : ℕ) → AreOfOneCore settings → (outcome_of cnf settings).winner ≡ Some w → w ≡ 0
+winner_first cnf settings w are is = first_by (stretched (sole cnf settings)).ended w (sym (run_winner cnf settings are) ∙ is)
+
+pub winner_end : (cnf : Cnf) (settings : Settings) (w : ℕ) → AreOfOneCore settings → (outcome_of cnf settings).winner ≡ Some w →
+    option_map verdict_at (slice_get (last_ends cnf settings) w) ≡ Some (outcome_of cnf settings).verdict
+winner_end cnf settings w are is =
+    ap (λ k. option_map verdict_at (slice_get (last_ends cnf settings) k)) (winner_first cnf settings w are is)
+    ∙ ap (λ ends. option_map verdict_at (slice_get ends 0)) (ends_one cnf settings are) ∙ ap Some (sym (run_verdict cnf settings are))
+
+pub winner_lowest : (cnf : Cnf) (settings : Settings) (w i : ℕ) (e : End) → AreOfOneCore settings → (outcome_of cnf settings).winner ≡ Some w → i < w →
+    slice_get (last_ends cnf settings) i ≡ Some e → is_answer e ≡ false
+winner_lowest cnf settings w i e are is before at = absurd (omega (arith, before, winner_first cnf settings w are is))
 
 -- == what the verdict says ==
 

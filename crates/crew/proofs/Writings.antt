@@ -1,5 +1,5 @@
 -- What a run of one core writes.
-use Rattle.std.proofs.Common.{◌≡◌, List, [], ◌∷◌, ℕ, length, append-nil, refl, ap, sym, ◌∙◌, subst, arith}
+use Rattle.std.proofs.Common.{◌≡◌, List, [], ◌∷◌, ℕ, length, refl, ap, sym, ◌∙◌, subst}
 use Rattle.lit_base.specs.Cnf.{Cnf}
 use Rattle.log_merge.specs.Numbering.{Numbering, first_numbering, with_period}
 use Rattle.log_merge.specs.Part.{part_text, AllHaveNumbers}

@@ -1,20 +1,21 @@
 //! What makes the answer of a run right: laws of the definitions, as functions that do nothing and whose
 //! contracts state them.
-ghost use Rattle.std.specs.Prelude.{◌≡◌, ◌<◌, ◌≤◌, ℕ, ◌+◌, ◌↔◌, Bool, true, IsOk, IsSome, List, length, Some, slice_get};
+ghost use Rattle.std.specs.Prelude.{◌≡◌, ◌<◌, ◌≤◌, ℕ, ◌+◌, ◌↔◌, Bool, true, false, IsOk, IsSome, IsNone, List, length, Some, option_map, slice_get};
 ghost use Rattle.std.specs.List.{AllByRecursion};
 ghost use Rattle.lit_base.specs.Cnf.{Cnf, IsFormula};
 ghost use Rattle.lit_base.specs.Truth.{Satisfies};
 ghost use Rattle.lit_base.specs.Judgement.{judge, Checks, HasNoModel};
 ghost use Rattle.solo_core.specs.Log.{AreNumbered};
 ghost use Rattle.solo_core.specs.Soundness.{EndsEmpty};
+ghost use Rattle.solo_core.specs.declared.sheet.End.{End};
 ghost use Rattle.solo_core.specs.declared.sheet.End.TheVariants as end;
 ghost use Rattle.solo_core.specs.declared.sheet.Settings.{Settings};
 ghost use Rattle.log_merge.specs.Numbering.{number_of};
 ghost use Rattle.crew.specs.declared.outcome.Verdict.TheVariants.{Sat, Unsat, Unknown};
-ghost use Rattle.crew.specs.Era.{is_over};
+ghost use Rattle.crew.specs.Era.{is_answer, is_over};
 ghost use Rattle.crew.specs.Run.{mails_at, HasEra, last_era, last_ends, AreOfOneCore};
 ghost use Rattle.crew.specs.Log.{log_of, numbering_of_run, log_lines};
-ghost use Rattle.crew.specs.Outcome.{outcome_of};
+ghost use Rattle.crew.specs.Outcome.{verdict_at, outcome_of};
 
 /// The last era is one of the run and ends it, and no other era does. There are no more eras than
 /// conflicts that a core may have; one core has one era.
@@ -65,6 +66,19 @@ pub fn law_model_satisfies_formula()
 pub fn law_unknown_where_all_are_spent()
     ensures { (cnf : Cnf) (settings : Settings) → AreOfOneCore settings →
         ((outcome_of cnf settings).verdict ≡ Unknown) ↔ AllByRecursion (λ e. e ≡ end.Spent) (last_ends cnf settings) }
+{}
+
+/// There is a winner exactly where the verdict isn't Unknown. Its end is the verdict, and no core of a
+/// lower number has an answer.
+pub fn law_winner_is_first()
+    ensures exactly { (cnf : Cnf) (settings : Settings) → AreOfOneCore settings →
+        IsNone (outcome_of cnf settings).winner ↔ ((outcome_of cnf settings).verdict ≡ Unknown) }
+    ensures own_end { (cnf : Cnf) (settings : Settings) (w : ℕ) → AreOfOneCore settings →
+        (outcome_of cnf settings).winner ≡ Some w →
+        option_map verdict_at (slice_get (last_ends cnf settings) w) ≡ Some (outcome_of cnf settings).verdict }
+    ensures lowest { (cnf : Cnf) (settings : Settings) (w i : ℕ) (e : End) → AreOfOneCore settings →
+        (outcome_of cnf settings).winner ≡ Some w → i < w →
+        slice_get (last_ends cnf settings) i ≡ Some e → is_answer e ≡ false }
 {}
 
 /// No core ends with Sat where another ends with Unsat.

@@ -11,7 +11,7 @@ pub use examples::{
 };
 pub use laws::{
     law_ends_agree, law_log_follows, law_model_satisfies_formula, law_run_ends,
-    law_unknown_where_all_are_spent, law_unsat_is_refuted,
+    law_unknown_where_all_are_spent, law_unsat_is_refuted, law_winner_is_first,
 };
 pub use log_merge::Stop;
 pub use outcome::{Outcome, Verdict};

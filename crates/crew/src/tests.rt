@@ -4,7 +4,8 @@ ghost use Rattle.crew.specs.Run.{AreOfOneCore};
 use crate::{
     Outcome, Stop, Verdict, law_ends_agree, law_log_follows, law_model_satisfies_formula,
     law_run_ends, law_square_is_given_up_at_the_limit, law_square_is_refuted, law_two_cores_go_on,
-    law_two_cores_in_turn, law_unknown_where_all_are_spent, law_unsat_is_refuted, run_turns,
+    law_two_cores_in_turn, law_unknown_where_all_are_spent, law_unsat_is_refuted,
+    law_winner_is_first, run_turns,
 };
 use desk_io::{MemoryOutputs, Port};
 use lit_base::{Clause, Formula, List, Lit, NoMemory};
@@ -81,6 +82,7 @@ fn one_core_runs_small_formulas(rt: HostRuntime) -> Result<(), Fail> {
     let stepped = [[1, 2, 3].as_slice(), &[1, 2, -3]];
     let forked = [[1].as_slice(), &[-1, 2, 3], &[-1, 2, -3]];
     let clashing = [[1].as_slice(), &[2], &[-2, -1], &[-1]];
+    let hollow = [[].as_slice()];
     for (variables, clauses, limit, verdict, log, values) in [
         (
             2,
@@ -116,6 +118,7 @@ fn one_core_runs_small_formulas(rt: HostRuntime) -> Result<(), Fail> {
             &[true, true, true],
         ),
         (2, &clashing, 10, Verdict::Unsat, b"5 0 1 2 3 0\n", &[]),
+        (1, &hollow, 10, Verdict::Unsat, b"2 0 1 0\n", &[]),
         (1, &[], 10, Verdict::Sat, b"", &[false]),
     ] {
         let formula = formula(&rt, alloc, variables, clauses)?;
@@ -124,8 +127,19 @@ fn one_core_runs_small_formulas(rt: HostRuntime) -> Result<(), Fail> {
         let outcome = outcome(&rt, run)?;
         assert_eq!(rt; outcome.verdict, verdict);
         assert_eq!(rt; outcome.eras, 1);
-        assert_eq!(rt; outcome.winner.is_some(), verdict != Verdict::Unknown);
+        assert_eq!(rt;
+            outcome.winner,
+            if verdict == Verdict::Unknown {
+                None
+            } else {
+                Some(0)
+            }
+        );
         assert_eq!(rt; outputs.kept(Port::Log), log);
+        assert_eq!(rt;
+            outcome.lemmas,
+            log.iter().filter(|byte| **byte == b'\n').count() as u64
+        );
         assert_eq!(rt; outcome.model.is_some(), verdict == Verdict::Sat);
         if let Some(model) = &outcome.model {
             assert_eq!(rt; model.values(), values);
@@ -143,7 +157,9 @@ fn a_log_is_written_where_it_is_wanted_up_to_a_write_that_fails(
     let mut unwanted = outputs(alloc, 9, 1)?;
     let run = run_turns(alloc, &formula, &settings(10), false, &mut unwanted);
     assert_eq!(rt; outcome(&rt, run)?.lemmas, 2);
-    assert_eq!(rt; unwanted.kept(Port::Log).len(), 0);
+    for port in [Port::Answer, Port::Log, Port::Complaint] {
+        assert_eq!(rt; unwanted.kept(port).len(), 0);
+    }
     let mut wanted = outputs(alloc, 9, 2)?;
     match run_turns(alloc, &formula, &settings(10), true, &mut wanted) {
         Ok(_) => assert!(rt; false, "the log can't be written"),
@@ -161,6 +177,7 @@ fn laws_can_be_called(_rt: HostRuntime) {
     law_unsat_is_refuted();
     law_model_satisfies_formula();
     law_unknown_where_all_are_spent();
+    law_winner_is_first();
     law_ends_agree();
     law_square_is_refuted();
     law_square_is_given_up_at_the_limit();
