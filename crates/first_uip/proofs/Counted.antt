@@ -1,15 +1,13 @@
 -- Counts of the flagged entries that are still to be met.
 use Rattle.std.proofs.Common.{◌≡◌, ℕ, ◌==◌, ◌+◌, ◌-◌, ◌≤◌, ◌<◌, Bool, true, false, cond, ◌&&◌, ◌||◌, List, [], ◌∷◌, length, refl, ap, ◌∙◌, sym, subst, arith}
-use Rattle.std.specs.Prelude.{Option, Some, nat_lt}
-use Rattle.std.proofs.lemmas.Bool.{lt-ltb, eqb-true, eqb-false, eq-eqb, ne_eqb, cond-true, cond-false}
+use Rattle.std.specs.Prelude.{Some, nat_lt}
+use Rattle.std.proofs.lemmas.Bool.{lt-ltb, eqb-true, eqb-false, eq-eqb, ne_eqb, cond-true}
 use Rattle.std.proofs.lemmas.List.{drop_all}
 use Rattle.std.proofs.lemmas.List.Sums.{sum_by-cons, count_by-le-length}
 use Rattle.lit_base.specs.declared.trail.Entry.{Entry}
-use Rattle.lit_base.specs.declared.name.Name.{Name}
-use Rattle.lit_base.specs.Literal.{Literal}
 use Rattle.lit_base.specs.Trail.{level_of, is_free}
 use Rattle.lit_base.specs.Fits.{HasDistinctVariables}
-use Rattle.lit_base.specs.Analysis.{Trace, is_marked, is_resolved, is_other_left, settle, touch, trace}
+use Rattle.lit_base.specs.Analysis.{is_other_left}
 use Rattle.first_uip.specs.Marks.{is_flagged, AreFlagsOf, flagged_count, this_level, one_if, AreListed, IsCounted, AreClear}
 use Rattle.first_uip.specs.declared.marks.Marks.{Marks}
 use Rattle.first_uip.specs.Places.{before}

@@ -1,11 +1,11 @@
 -- What is gathered of entries by their places, against the definition.
-use Rattle.std.proofs.Common.{◌≡◌, ℕ, ◌==◌, ◌+◌, ◌-◌, ◌≤◌, ◌<◌, List, [], ◌∷◌, ◌++◌, length, get_or, take, map, reverse, vec_len, vec_capacity, refl, ap, ◌∙◌, sym, subst, arith}
+use Rattle.std.proofs.Common.{◌≡◌, ℕ, ◌==◌, ◌+◌, ◌-◌, ◌≤◌, ◌<◌, List, [], ◌∷◌, length, get_or, take, map, reverse, vec_len, vec_capacity, refl, ap, ◌∙◌, sym, subst, arith}
 use Rattle.std.specs.Prelude.{Option, Some, slice_get}
 use Rattle.std.proofs.lemmas.List.{reverse-append, take_more, take_all}
-use Rattle.lit_base.specs.Literal.{Literal, negation}
+use Rattle.lit_base.specs.Literal.{Literal}
 use Rattle.lit_base.specs.declared.trail.Entry.{Entry}
 use Rattle.lit_base.specs.declared.name.Name.{Name}
-use Rattle.lit_base.specs.Analysis.{Trace, touch, settle, back_of}
+use Rattle.lit_base.specs.Analysis.{Trace, touch, settle}
 use Rattle.first_uip.specs.Places.{AreAt}
 use Rattle.first_uip.specs.Room.{IsSameRoom, IsSameGathered, HasSpare}
 use Rattle.first_uip.specs.Walked.{IsGathered, settled}

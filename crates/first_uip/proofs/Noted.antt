@@ -1,6 +1,6 @@
 -- The places of the flagged entries, from the oldest on, and the places that a search through the marked variables finds.
 use Rattle.std.proofs.Common.{◌≡◌, ℕ, ◌==◌, ◌+◌, ◌-◌, ◌≤◌, ◌<◌, Bool, true, false, cond, List, [], ◌∷◌, ◌++◌, All, IsPermutation, append-nil, length, get_or, map, reverse, filter, count_by, sum_by, refl, ap, ap₂, ◌∙◌, sym, subst, arith, length-append}
-use Rattle.std.specs.Prelude.{Option, Some, slice_get}
+use Rattle.std.specs.Prelude.{Some, slice_get}
 use Rattle.std.specs.List.Sorted.{IsNonDecreasing}
 use Rattle.std.proofs.lemmas.Bool.{cond_both, eqb-true}
 use Rattle.std.proofs.lemmas.List.{reverse-append}

@@ -1,5 +1,5 @@
 -- A step of the walk, against that of the definition.
-use Rattle.std.proofs.Common.{◌≡◌, ℕ, ◌==◌, ◌+◌, ◌-◌, ◌≤◌, ◌<◌, Bool, true, false, ◌&&◌, ◌||◌, List, [], ◌∷◌, length, drop, refl, ap, ◌∙◌, sym, subst, arith}
+use Rattle.std.proofs.Common.{◌≡◌, ℕ, ◌==◌, ◌+◌, ◌-◌, ◌≤◌, ◌<◌, Bool, true, false, ◌&&◌, ◌||◌, List, [], ◌∷◌, length, drop, refl, ap, ◌∙◌, sym, arith}
 use Rattle.std.specs.Prelude.{Option, Some, None, nat_lt}
 use Rattle.std.proofs.lemmas.Bool.{cond-true, cond-false}
 use Rattle.std.proofs.lemmas.List.{drop-drop}
@@ -8,12 +8,11 @@ use Rattle.lit_base.specs.Literal.{Literal}
 use Rattle.lit_base.specs.declared.trail.Entry.{Entry}
 use Rattle.lit_base.specs.declared.name.Name.{Name}
 use Rattle.lit_base.specs.Analysis.{Trace, variables_of, is_marked, is_resolved, touch, resolve, settle, trace}
-use Rattle.first_uip.specs.Marks.{is_flagged, AreFlagsOf, flagged_count, this_level, IsCounted}
+use Rattle.first_uip.specs.Marks.{is_flagged, AreFlagsOf, flagged_count, this_level}
 use Rattle.first_uip.specs.Places.{before}
 use Rattle.first_uip.specs.Reasons.{reason_variables}
 use Rattle.first_uip.specs.Walked.{Traces, IsWalked, first_step}
 use Rattle.first_uip.specs.declared.walk.Walk.{Walk}
-use Rattle.first_uip.specs.declared.marks.Marks.{Marks}
 use Rattle.first_uip.proofs.Counted.{left_by_count}
 
 -- an entry whose flag isn't set is passed over

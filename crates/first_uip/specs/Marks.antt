@@ -1,5 +1,5 @@
 -- Flags by variable, for the marked variables of an analysis, and the count of the flagged entries of a level.
-use Rattle.std.specs.Prelude.{◌≡◌, ◌≤◌, ℕ, ◌==◌, Bool, true, false, ◌&&◌, List, [], ◌++◌, Option, Some, None, slice_index_or, filter, count_by, vec_len, vec_capacity, if◌then◌else◌}
+use Rattle.std.specs.Prelude.{◌≡◌, ◌≤◌, ℕ, ◌==◌, Bool, false, ◌&&◌, List, [], ◌++◌, Option, Some, None, slice_index_or, filter, count_by, vec_len, vec_capacity, if◌then◌else◌}
 use Rattle.lit_base.specs.Analysis.{is_marked}
 use Rattle.lit_base.specs.declared.trail.Entry.{Entry}
 use Rattle.first_uip.specs.declared.marks.Marks.{Marks}

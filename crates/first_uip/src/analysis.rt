@@ -33,7 +33,7 @@ impl Model for Analyser {
 }
 
 impl Analyser {
-    /// For trails of so many variables. Takes some 20 bytes and more for each of them.
+    /// For trails of so many variables. Takes some 30 bytes for each of them.
     pub fn make(alloc: Global, variables: u32) -> Result<Analyser, NoMemory>
         ensures { IfOk result (λ analyser. analyser ≡ variables) }
     {

@@ -51,6 +51,25 @@ fn pool_of(alloc: Global, first: &[Lit], second: &[Lit], third: &[Lit]) -> Resul
     Ok(pool)
 }
 
+/// The pool of these and one more.
+fn pool_of_four(
+    alloc: Global,
+    first: &[Lit],
+    second: &[Lit],
+    third: &[Lit],
+    fourth: &[Lit],
+) -> Result<Pool, NoMemory>
+    ensures { IfOk result (λ pool. clauses_of pool ≡
+        named_from 0 (distinct first.now ∷ distinct second.now ∷ distinct third.now ∷ distinct fourth.now ∷ [])) }
+{
+    let mut pool = Pool::new(alloc);
+    add(alloc, &mut pool, 0, first)?;
+    add(alloc, &mut pool, 1, second)?;
+    add(alloc, &mut pool, 2, third)?;
+    add(alloc, &mut pool, 3, fourth)?;
+    Ok(pool)
+}
+
 /// Variable 1 by the first clause, then the decision that 2 is false, then variable 3 by the second clause.
 fn forked_trail(alloc: Global) -> Result<Trail, NoMemory>
     ensures entries { IfOk result (λ trail. trail.entries ≡ forked_trail) }
@@ -169,12 +188,23 @@ fn expect_two_levels(
 fn expect_long(rt: &impl Abort, alloc: Global) -> Result<(), NoMemory> {
     let (first, second, clause) = ([yes(1)], [no(1), yes(2)], [no(2), no(7), yes(8)]);
     let other = [no(4), no(2), no(8), no(6), no(7)];
-    let mut pool = pool_of(alloc, &first, &second, &clause)?;
-    add(alloc, &mut pool, 3, &other)?;
+    let pool = pool_of_four(alloc, &first, &second, &clause, &other)?;
     let mut analyser = Analyser::make(alloc, 8)?;
     let lesson = analyser.analyse(&pool, &long_trail(alloc)?, Name::original(3))?;
-    let hints = [Name::original(0), Name::original(1), Name::original(2), Name::original(3)];
-    expect(rt, &lesson, &[no(7), no(6), no(4)], &hints, 4, &[8, 7, 6, 4]);
+    let hints = [
+        Name::original(0),
+        Name::original(1),
+        Name::original(2),
+        Name::original(3),
+    ];
+    expect(
+        rt,
+        &lesson,
+        &[no(7), no(6), no(4)],
+        &hints,
+        4,
+        &[8, 7, 6, 4],
+    );
     Ok(())
 }
 

@@ -1,6 +1,6 @@
 use Rattle.std.proofs.Common.{◌∙◌, arith}
 use Rattle.first_uip.proofs.Flagged.{flags_more, flags_all}
-use Rattle.first_uip.proofs.Listed.{goes_on_same, goes_on_further}
+use Rattle.first_uip.proofs.Listed.{goes_on_further}
 use Rattle.first_uip.proofs.marks.Marks.mark_all.Goals as goal
 
 -- one more variable is marked

@@ -1,5 +1,5 @@
-use Rattle.std.proofs.Common.{◌≡◌, ◌-◌, ◌<◌, ◌≤◌, length, get_or, vec_len, ap, ◌∙◌, refl, arith, rules}
-use Rattle.first_uip.proofs.Gathered.{room_same, way_begins, way_more, way_ends}
+use Rattle.std.proofs.Common.{◌≡◌, ◌-◌, length, get_or, vec_len, ap, ◌∙◌, arith, rules}
+use Rattle.first_uip.proofs.Gathered.{room_same, way_more, way_ends}
 use Rattle.first_uip.proofs.walk.Walk.gather_older.Goals as goal
 
 -- one entry more

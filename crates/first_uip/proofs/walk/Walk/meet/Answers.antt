@@ -1,4 +1,4 @@
-use Rattle.std.proofs.Common.{◌≡◌, ◌+◌, refl, ap, ◌∙◌, sym, subst}
+use Rattle.std.proofs.Common.{◌+◌, refl, ap, ◌∙◌, sym, subst}
 use Rattle.lit_base.specs.Named.{lits_at}
 use Rattle.lit_base.specs.Held.{clauses_of}
 use Rattle.first_uip.specs.Marks.{is_flagged, AreFlagsOf, IsCounted}
@@ -37,7 +37,7 @@ returns-then-resolved-clause-traces c = λ t stands.
     let begun = gathered_same level c.args.self.now (record c.args.self.now { marks = met }) t (record { lits = refl; hints = refl; back = refl; touched = refl }) stands.gathered in
     let still_set = ap (λ flags. is_flagged flags.items e.lit.variable) c.meet.ensures.flags ∙ c.requires.marked in
     let step = step_marked look level met.left (before (c.args.place + 1) c.args.trail.now.entries) older e met.flags.items resolved t c.requires.next are still_set counted.of_level
-        c.is_resolved-resolved.ensures in
+    c.is_resolved-resolved.ensures in
     let same : AreFlagsOf t.marked c.gather.new.self.marks.flags.items = subst (λ (m : Marks). AreFlagsOf t.marked m.flags.items) (sym c.gather.ensures.marks) are in
     subst (Traces level _) (sym step)
     (record {
@@ -59,7 +59,7 @@ returns-else-resolved-clause-traces c = λ t stands.
     let begun = gathered_same level c.args.self.now (record c.args.self.now { marks = met }) t (record { lits = refl; hints = refl; back = refl; touched = refl }) stands.gathered in
     let still_set = ap (λ flags. is_flagged flags.items e.lit.variable) c.meet.ensures.flags ∙ c.requires.marked in
     let step = step_marked look level met.left (before (c.args.place + 1) c.args.trail.now.entries) older e met.flags.items resolved t c.requires.next are still_set counted.of_level
-        c.is_resolved-resolved.ensures in
+    c.is_resolved-resolved.ensures in
     let same : AreFlagsOf t.marked c.gather.new.self.marks.flags.items = subst (λ (m : Marks). AreFlagsOf t.marked m.flags.items) (sym c.gather.ensures.marks) are in
     subst (Traces level _) (sym step)
     (record {
