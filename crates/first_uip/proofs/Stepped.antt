@@ -10,7 +10,7 @@ use Rattle.lit_base.specs.declared.name.Name.{Name}
 use Rattle.lit_base.specs.Analysis.{Trace, variables_of, is_marked, is_resolved, touch, resolve, settle, trace}
 use Rattle.first_uip.specs.Marks.{is_flagged, AreFlagsOf, flagged_count, this_level}
 use Rattle.first_uip.specs.Places.{before}
-use Rattle.first_uip.specs.Reasons.{reason_variables}
+use Rattle.first_uip.specs.Reasons.{reason_variables, resolved_variables}
 use Rattle.first_uip.specs.Walked.{Traces, IsWalked, first_step}
 use Rattle.first_uip.specs.declared.walk.Walk.{Walk}
 use Rattle.first_uip.proofs.Counted.{left_by_count}
@@ -33,22 +33,19 @@ step_marked look level left rest older e flags resolved t is are is_set left_is 
     (sym (resolved_is ∙ ap (λ b. (e.level == 0) || ((e.level == level) && b)) (ap (λ n. nat_lt 0 n) left_is ∙ left_by_count level flags t.marked older are))))
 
 -- what the reason of a resolved entry has is flagged
-resolve_marks : (look : Name → Option (List Literal)) (e : Entry) (reason : Option Name) (t : Trace) (v : ℕ) →
-    is_marked (resolve look e reason t).marked v ≡ (is_marked (reason_variables look reason) v || is_marked t.marked v)
-resolve_marks look e None t v = refl
-resolve_marks look e (Some name) t v = list_any-append (λ m. m == v) (variables_of (look name)) t.marked
+settle_marks : (look : Name → Option (List Literal)) (e : Entry) (resolved : Bool) (t : Trace) (v : ℕ) →
+    is_marked (settle look resolved e t).marked v ≡ (is_marked (resolved_variables look resolved e.reason) v || is_marked t.marked v)
+settle_marks look e false t v = refl
+settle_marks look e true t v = by_reason e.reason
+  where
+    by_reason : (reason : Option Name) → is_marked (resolve look e reason t).marked v ≡ (is_marked (reason_variables look reason) v || is_marked t.marked v)
+    by_reason None = refl
+    by_reason (Some name) = list_any-append (λ m. m == v) (variables_of (look name)) t.marked
 
-pub resolved_flags : (look : Name → Option (List Literal)) (e : Entry) (resolved : Bool) (t : Trace) (flags after : List Bool) → resolved ≡ true → AreFlagsOf t.marked flags →
-    ((v : ℕ) → is_flagged after v ≡ (is_marked (reason_variables look e.reason) v || is_flagged flags v)) → AreFlagsOf (settle look resolved e (touch e t)).marked after
-resolved_flags look e resolved t flags after is are more v =
-    more v
-    ∙ (ap (λ b. is_marked (reason_variables look e.reason) v || b) (are v)
-    ∙ (sym (resolve_marks look e e.reason (touch e t) v) ∙ ap (λ b. is_marked (settle look b e (touch e t)).marked v) (sym is)))
-
--- an entry that stays flags none
-pub unresolved_flags : (look : Name → Option (List Literal)) (e : Entry) (resolved : Bool) (t : Trace) (flags : List Bool) → resolved ≡ false → AreFlagsOf t.marked flags →
-    AreFlagsOf (settle look resolved e (touch e t)).marked flags
-unresolved_flags look e resolved t flags is are v = are v ∙ ap (λ b. is_marked (settle look b e (touch e t)).marked v) (sym is)
+pub settle_flags : (look : Name → Option (List Literal)) (e : Entry) (resolved : Bool) (t : Trace) (flags after : List Bool) → AreFlagsOf t.marked flags →
+    ((v : ℕ) → is_flagged after v ≡ (is_marked (resolved_variables look resolved e.reason) v || is_flagged flags v)) → AreFlagsOf (settle look resolved e (touch e t)).marked after
+settle_flags look e resolved t flags after are more v =
+    more v ∙ (ap (λ b. is_marked (resolved_variables look resolved e.reason) v || b) (are v) ∙ sym (settle_marks look e resolved (touch e t) v))
 
 -- the trace of some entries is their first step, and the trace of the others
 trace_first : (look : Name → Option (List Literal)) (level : ℕ) (rest : List Entry) (t : Trace) → trace look level rest t ≡ trace look level (drop 1 rest) (first_step look level rest t)

@@ -1,5 +1,5 @@
 -- What the analysis reads of clauses: that they are held, over variables that have flags.
-use Rattle.std.specs.Prelude.{ℕ, ◌<◌, ◌==◌, ⊤, List, [], Option, Some, None, if◌then◌else◌}
+use Rattle.std.specs.Prelude.{ℕ, ◌<◌, ◌==◌, Bool, ⊤, List, [], Option, Some, None, if◌then◌else◌}
 use Rattle.std.specs.List.{All}
 use Rattle.lit_base.specs.Literal.{Literal}
 use Rattle.lit_base.specs.Analysis.{variables_of}
@@ -25,7 +25,11 @@ abbrev pub reason_variables : (Name → Option (List Literal)) → Option Name �
 reason_variables look None = []
 reason_variables look (Some name) = variables_of (look name)
 
--- the variables of the reason of an entry of level 0
+-- those of the reason of an entry, where it is resolved
+abbrev pub resolved_variables : (Name → Option (List Literal)) → Bool → Option Name → List ℕ
+resolved_variables look resolved reason = if resolved then reason_variables look reason else []
+
+-- an entry of level 0 is
 abbrev pub root_variables : (Name → Option (List Literal)) → Option Entry → List ℕ
 root_variables look None = []
-root_variables look (Some e) = if e.level == 0 then reason_variables look e.reason else []
+root_variables look (Some e) = resolved_variables look (e.level == 0) e.reason

@@ -1,10 +1,11 @@
 -- How a walk over the trail stands to the definition of the analysis.
-use Rattle.std.specs.Prelude.{◌≡◌, ℕ, ◌==◌, List, [], ◌∷◌, ◌++◌, map, reverse, Option}
+use Rattle.std.specs.Prelude.{◌≡◌, ℕ, ◌==◌, List, [], ◌∷◌, ◌++◌, map, reverse, count_by, sum_by, Option}
 use Rattle.lit_base.specs.Literal.{Literal, negation}
 use Rattle.lit_base.specs.Analysis.{Trace, variables_of, touch, settle, trace_step, trace, back_of}
 use Rattle.lit_base.specs.declared.trail.Entry.{Entry}
 use Rattle.lit_base.specs.declared.name.Name.{Name}
-use Rattle.first_uip.specs.Marks.{AreFlagsOf}
+use Rattle.trail_book.specs.TrailState.{place_of}
+use Rattle.first_uip.specs.Marks.{AreFlagsOf, AreListed, one_if}
 use Rattle.first_uip.specs.Places.{before}
 use Rattle.first_uip.specs.declared.walk.Walk.{Walk}
 
@@ -44,3 +45,8 @@ pub record IsWalked (look : Name → Option (List Literal)) (level place : ℕ) 
   pub trace_here : Trace
   pub stands : Traces level walk trace_here
   pub rest : trace look level (before place trail) trace_here ≡ trace look level trail start
+
+-- the places that were found are those of the listed variables among these entries
+pub record AreFound (rest : List Entry) (walk : Walk) : Type 0 where
+  pub listed : AreListed walk.marks
+  pub places : (p : ℕ) → count_by (λ at. at == p) walk.places.items ≡ sum_by (λ v. one_if (λ at. at == p) (place_of rest v)) walk.marks.marked.items

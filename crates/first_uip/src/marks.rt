@@ -8,11 +8,11 @@ ghost use Rattle.lit_base.specs.Named.{lits_at};
 ghost use Rattle.lit_base.specs.Held.{clauses_of};
 ghost use Rattle.lit_base.specs.Analysis.{is_marked};
 ghost use Rattle.first_uip.specs.Places.{before};
-ghost use Rattle.first_uip.specs.Reasons.{IsReasonBelow, reason_variables};
+ghost use Rattle.first_uip.specs.Reasons.{IsReasonBelow, resolved_variables};
 
 use crate::reads::lits_of;
 use clause_pool::Pool;
-use lit_base::{Entry, Lit, Name, NoMemory};
+use lit_base::{Entry, Lit, NoMemory};
 use std::alloc::Global;
 use trail_book::Trail;
 
@@ -105,7 +105,7 @@ impl Marks {
     }
 
     /// Marks the variables of the literals.
-    fn mark_all(&mut self, trail: &Trail, level: u32, place: usize, lits: &[Lit])
+    pub(crate) fn mark_all(&mut self, trail: &Trail, level: u32, place: usize, lits: &[Lit])
         requires trail { IsTrail trail.now }
         requires within { All (λ l. l.variable < vec_len self.old.flags) lits.now }
         requires counted { IsCounted level (before place trail.now.entries) self.old }
@@ -120,25 +120,29 @@ impl Marks {
         }
     }
 
-    /// Marks the variables of a reason, if there is one.
+    /// Marks the variables of the reason of an entry that is resolved.
     pub(crate) fn mark_reason(
         &mut self,
         pool: &Pool,
         trail: &Trail,
         level: u32,
         place: usize,
-        reason: Option<Name>,
+        entry: &Entry,
+        resolved: bool,
     )
         requires trail { IsTrail trail.now }
-        requires held { IsReasonBelow (vec_len self.old.flags) (lits_at (clauses_of pool.now)) reason }
+        requires held { IsReasonBelow (vec_len self.old.flags) (lits_at (clauses_of pool.now)) entry.now.reason }
         requires counted { IsCounted level (before place trail.now.entries) self.old }
         ensures room { vec_len self.new.flags ≡ vec_len self.old.flags }
         ensures flags { (v : ℕ) → is_flagged self.new.flags.items v ≡
-            (is_marked (reason_variables (lits_at (clauses_of pool.now)) reason) v || is_flagged self.old.flags.items v) }
+            (is_marked (resolved_variables (lits_at (clauses_of pool.now)) resolved entry.now.reason) v || is_flagged self.old.flags.items v) }
         ensures kept { GoesOn self.old.marked.items self.new.marked.items }
         ensures counted { IsCounted level (before place trail.now.entries) self.new }
     {
-        if let Some(name) = reason {
+        if !resolved {
+            return;
+        }
+        if let Some(name) = entry.reason {
             self.mark_all(trail, level, place, lits_of(pool, name));
         }
     }

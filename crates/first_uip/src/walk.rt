@@ -5,13 +5,14 @@ ghost use Rattle.lit_base.specs.declared.name.Name.{Name};
 ghost use Rattle.lit_base.specs.Named.{lits_at};
 ghost use Rattle.lit_base.specs.Held.{clauses_of};
 ghost use Rattle.lit_base.specs.Trail.{level_now};
-ghost use Rattle.lit_base.specs.Fits.{FitsClauses, IsConflict};
+ghost use Rattle.lit_base.specs.Fits.{HasDistinctVariables, FitsClauses, IsConflict};
 ghost use Rattle.lit_base.specs.Analysis.{Trace, is_marked, stay, touch, settle, trace, first_trace, lesson_from};
 ghost use Rattle.first_uip.specs.Places.{before, entry_of, AreAt, ArePlacesOf};
 ghost use Rattle.trail_book.specs.TrailState.{IsTrail, place_of};
 ghost use Rattle.first_uip.specs.Reasons.{IsHeldBelow, IsReasonBelow, AreReasonsBelow, root_variables};
 
 use crate::marks::Marks;
+use crate::reads::lits_of;
 use clause_pool::Pool;
 use lit_base::{Entry, Lesson, List, Lit, Name, NoMemory};
 use std::alloc::Global;
@@ -35,7 +36,7 @@ pub(crate) struct Walk {
 
 impl Walk {
     ghost use Rattle.first_uip.specs.Marks.{is_flagged, flagged, AreFlagsOf, IsCounted, AreClear, GoesOn, one_if};
-    ghost use Rattle.first_uip.specs.Walked.{IsGathered, Traces, IsWalked, blank_trace, cited, first_step, settled};
+    ghost use Rattle.first_uip.specs.Walked.{IsGathered, Traces, IsWalked, AreFound, blank_trace, cited, first_step, settled};
     ghost use Rattle.first_uip.specs.Room.{IsIdle, HasRoom, HasSpare, Grows, IsSameRoom, IsSameGathered};
 
     /// Nothing marked, over so many variables, with room for what a walk over an entry of each gathers.
@@ -72,7 +73,8 @@ impl Walk {
         let level = trail.level();
         self.cite(pool, trail, level, conflict);
         let place = self.walk_level(pool, trail, level);
-        self.list_older(pool, trail, level, place);
+        self.find_older(pool, trail, level, place);
+        self.sort_places();
         self.gather_older(trail, level);
     }
 
@@ -106,7 +108,7 @@ impl Walk {
             Traces level self.new (cited (lits_at (clauses_of pool.now)) name t) }
     {
         self.marks
-            .mark_reason(pool, trail, level, trail.len(), Some(name));
+            .mark_all(trail, level, trail.len(), lits_of(pool, name));
         self.hints.push_reserved(name);
     }
 
@@ -188,10 +190,8 @@ impl Walk {
         self.marks.meet(level, entry);
         let resolved = self.marks.is_resolved(level, entry);
         self.gather(level, entry, resolved);
-        if resolved {
-            self.marks
-                .mark_reason(pool, trail, level, place, entry.reason);
-        }
+        self.marks
+            .mark_reason(pool, trail, level, place, entry, resolved);
     }
 
     /// Meets the entry at a place: it is passed over unless it is marked.
@@ -268,10 +268,8 @@ impl Walk {
         }
         self.places.push_reserved(at as u32);
         let entry = trail.entry(at);
-        if entry.level == 0 {
-            self.marks
-                .mark_reason(pool, trail, level, place, entry.reason);
-        }
+        self.marks
+            .mark_reason(pool, trail, level, place, &entry, entry.level == 0);
     }
 
     /// Notes the places of the marked entries before a place, once the reasons of those of level 0 are marked too.
@@ -289,8 +287,7 @@ impl Walk {
         ensures counted { IsCounted level (before place trail.now.entries) self.new.marks }
         ensures marks { (t : Trace) → AreFlagsOf t.marked self.old.marks.flags.items →
             AreFlagsOf (trace (lits_at (clauses_of pool.now)) level (before place trail.now.entries) t).marked self.new.marks.flags.items }
-        ensures places { (p : ℕ) → count_by (λ at. at == p) self.new.places.items ≡
-            sum_by (λ v. one_if (λ at. at == p) (place_of (before place trail.now.entries) v)) self.new.marks.marked.items }
+        ensures found { AreFound (before place trail.now.entries) self.new }
         ensures room { IsSameRoom self.old self.new }
         ensures gathered { IsSameGathered self.old self.new }
     {
@@ -303,25 +300,14 @@ impl Walk {
         }
     }
 
-    /// The same, with the places in order: that of the oldest entry first.
-    fn list_older(&mut self, pool: &Pool, trail: &Trail, level: u32, place: usize)
-        requires trail { IsTrail trail.now }
-        requires within { place ≤ length trail.now.entries }
-        requires fits { FitsClauses (lits_at (clauses_of pool.now)) trail.now.entries }
-        requires reasons { AreReasonsBelow (vec_len self.old.marks.flags) (lits_at (clauses_of pool.now)) trail.now.entries }
-        requires counted { IsCounted level (before place trail.now.entries) self.old.marks }
-        requires none_left { self.old.marks.left ≡ 0 }
-        requires empty { (vec_len self.old.places ≡ 0) × (self.old.places.items ≡ []) }
-        requires room { vec_len self.old.marks.flags ≤ vec_capacity self.old.places }
-        ensures flags { vec_len self.new.marks.flags ≡ vec_len self.old.marks.flags }
-        ensures counted { IsCounted level (before place trail.now.entries) self.new.marks }
-        ensures marks { (t : Trace) → AreFlagsOf t.marked self.old.marks.flags.items →
-            AreFlagsOf (trace (lits_at (clauses_of pool.now)) level (before place trail.now.entries) t).marked self.new.marks.flags.items }
-        ensures listed { ArePlacesOf trail.now.entries place (flagged self.new.marks.flags.items (before place trail.now.entries)) self.new.places.items }
+    /// Puts the places that were found in order, that of the oldest entry first.
+    fn sort_places(&mut self)
+        ensures marks { self.new.marks ≡ self.old.marks }
+        ensures sorted { (trail : List Entry) (place : ℕ) → HasDistinctVariables trail → AreFound (before place trail) self.old →
+            ArePlacesOf trail place (flagged self.old.marks.flags.items (before place trail)) self.new.places.items }
         ensures room { IsSameRoom self.old self.new }
         ensures gathered { IsSameGathered self.old self.new }
     {
-        self.find_older(pool, trail, level, place);
         self.places.sort_unstable();
     }
 

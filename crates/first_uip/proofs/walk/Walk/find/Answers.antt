@@ -1,6 +1,5 @@
 use Rattle.std.proofs.Common.{◌≡◌, ◌==◌, ◌||◌, [], ◌+◌, cond, count_by, vec_len, ap, ◌∙◌, sym, arith}
 use Rattle.std.specs.Prelude.{None, Some}
-use Rattle.std.proofs.lemmas.Bool.{cond-true, cond-false, eq-eqb, ne_eqb}
 use Rattle.std.proofs.lemmas.List.Sums.{sum_by_push}
 use Rattle.lit_base.specs.Named.{lits_at}
 use Rattle.lit_base.specs.Held.{clauses_of}
@@ -9,7 +8,7 @@ use Rattle.lit_base.specs.declared.trail.Entry.{Entry}
 use Rattle.trail_book.specs.TrailState.{place_of}
 use Rattle.first_uip.specs.Marks.{is_flagged, one_if}
 use Rattle.first_uip.specs.Places.{before, entry_of}
-use Rattle.first_uip.specs.Reasons.{IsReasonBelow, reason_variables, root_variables}
+use Rattle.first_uip.specs.Reasons.{IsReasonBelow, root_variables}
 use Rattle.first_uip.proofs.Placed.{held_at, place_below, place_above, place_nowhere, entry_below, entry_above, entry_nowhere}
 use Rattle.first_uip.proofs.Standing.{entry_there}
 use Rattle.first_uip.proofs.walk.Walk.find.Goals as goal
@@ -49,41 +48,18 @@ mark_reason-requires-clause-held c =
     held_at (λ (e : Entry). IsReasonBelow room look e.reason) c.args.trail.now.entries c.in-Some.at c.entry-entry.result c.requires.reasons c.entry-entry.ensures.value
 
 -- at level 0 its variables are marked
-pub returns-then-entry-eq0-clause-marks : goal.returns-then-entry-eq0-clause-marks
-returns-then-entry-eq0-clause-marks c = λ v.
-    let look = lits_at (clauses_of c.args.pool.now) in
+pub returns-clause-marks : goal.returns-clause-marks
+returns-clause-marks c = λ v.
     let entries = c.args.trail.now.entries in
-    let at = c.in-Some.at in
-    let e = c.entry-entry.result in
     let is = sym c.in-Some.is ∙ c.place.ensures.value in
-    let found : entry_of (before c.args.place entries) c.args.var ≡ Some e =
-    sym (entry_below c.args.place at c.args.var entries c.requires.trail.distinct is c.if-at-place.false) ∙ entry_there c.args.var at entries e (sym is) c.entry-entry.ensures.value in
-    let own = ap (root_variables look) found ∙ cond-true (e.level == 0) (reason_variables look e.reason) [] (eq-eqb e.level 0 c.if-entry-eq0.true) in
-    c.mark_reason.ensures.flags v ∙ ap (λ vs. is_marked vs v || is_flagged c.args.self.now.marks.flags.items v) (sym own)
-
-pub returns-else-entry-eq0-clause-marks : goal.returns-else-entry-eq0-clause-marks
-returns-else-entry-eq0-clause-marks c = λ v.
-    let look = lits_at (clauses_of c.args.pool.now) in
-    let entries = c.args.trail.now.entries in
-    let at = c.in-Some.at in
-    let e = c.entry-entry.result in
-    let is = sym c.in-Some.is ∙ c.place.ensures.value in
-    let found : entry_of (before c.args.place entries) c.args.var ≡ Some e =
-    sym (entry_below c.args.place at c.args.var entries c.requires.trail.distinct is c.if-at-place.false) ∙ entry_there c.args.var at entries e (sym is) c.entry-entry.ensures.value in
-    let own = ap (root_variables look) found ∙ cond-false (e.level == 0) (reason_variables look e.reason) [] (ne_eqb e.level 0 c.if-entry-eq0.false) in
-    ap (λ vs. is_marked vs v || is_flagged c.args.self.now.marks.flags.items v) (sym own)
+    let found : Some c.entry-entry.result ≡ entry_of (before c.args.place entries) c.args.var =
+    sym (entry_there c.args.var c.in-Some.at entries c.entry-entry.result (sym is) c.entry-entry.ensures.value)
+    ∙ entry_below c.args.place c.in-Some.at c.args.var entries c.requires.trail.distinct is c.if-at-place.false in
+    c.mark_reason.ensures.flags v ∙ ap (λ o. is_marked (root_variables (lits_at (clauses_of c.args.pool.now)) o) v || is_flagged c.args.self.now.marks.flags.items v) found
 
 -- its place is noted
-pub returns-then-entry-eq0-clause-places : goal.returns-then-entry-eq0-clause-places
-returns-then-entry-eq0-clause-places c = λ p.
-    let is = sym c.in-Some.is ∙ c.place.ensures.value in
-    ap (count_by (λ at. at == p)) c.push_reserved.ensures.items
-    ∙ (sum_by_push (λ at. cond (at == p) 1 0) c.args.self.now.places.items c.in-Some.at
-    ∙ ap (λ o. count_by (λ at. at == p) c.args.self.now.places.items + one_if (λ at. at == p) o)
-    (place_below c.args.place c.in-Some.at c.args.var c.args.trail.now.entries c.requires.trail.distinct is c.if-at-place.false))
-
-pub returns-else-entry-eq0-clause-places : goal.returns-else-entry-eq0-clause-places
-returns-else-entry-eq0-clause-places c = λ p.
+pub returns-clause-places : goal.returns-clause-places
+returns-clause-places c = λ p.
     let is = sym c.in-Some.is ∙ c.place.ensures.value in
     ap (count_by (λ at. at == p)) c.push_reserved.ensures.items
     ∙ (sum_by_push (λ at. cond (at == p) 1 0) c.args.self.now.places.items c.in-Some.at

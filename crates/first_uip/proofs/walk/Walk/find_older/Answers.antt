@@ -1,4 +1,4 @@
-use Rattle.std.proofs.Common.{◌≡◌, ◌==◌, ◌<◌, length, get_or, count_by, sum_by, vec_len, ap, ◌∙◌, sym, refl, arith, rules}
+use Rattle.std.proofs.Common.{◌≡◌, ◌==◌, ◌<◌, ◌≤◌, length, get_or, count_by, sum_by, vec_len, ap, ◌∙◌, sym, refl, arith, rules}
 use Rattle.std.proofs.lemmas.List.{take_all}
 use Rattle.std.proofs.lemmas.List.Sums.{count_by-le-length}
 use Rattle.lit_base.specs.Named.{lits_at}
@@ -62,12 +62,16 @@ returns-then-index-len-clause-marks c = λ t are.
     (fits_before (lits_at (clauses_of c.args.pool.now)) c.args.place c.args.trail.now.entries (record { distinct = c.requires.trail.distinct; fits = c.requires.fits; leveled = c.requires.trail.leveled }))
     (none_is_left c.args.level rest c.args.self.now.marks t c.requires.counted c.requires.none_left are) (omega (arith, long, c.len.ensures)) are now.counted.listed.flags now.reached (now.sound t are)
 
-pub returns-then-index-len-clause-places : goal.returns-then-index-len-clause-places
-returns-then-index-len-clause-places c = λ p.
+pub returns-then-index-len-clause-found : goal.returns-then-index-len-clause-found
+returns-then-index-len-clause-found c =
+    let now = c.loop-index.invariant in
     let marked = c.loop-index.self.marks.marked in
     let long : vec_len marked ≡ length marked.items = search rules in
-    c.loop-index.invariant.places p
-    ∙ ap (sum_by (λ v. one_if (λ at. at == p) (place_of (before c.args.place c.args.trail.now.entries) v))) (take_all c.loop-index.index marked.items (omega (arith, long, c.len.ensures)))
+    let rest = before c.args.place c.args.trail.now.entries in
+    record {
+      listed = now.counted.listed;
+      places = λ p. now.places p ∙ ap (sum_by (λ v. one_if (λ at. at == p) (place_of rest v))) (take_all c.loop-index.index marked.items (omega (arith, long, c.len.ensures)));
+    }
 
 pub returns-clause-marks : goal.returns-clause-marks
 returns-clause-marks c = λ t are.
@@ -82,13 +86,13 @@ returns-clause-marks c = λ t are.
     (none_is_left c.args.level rest c.args.self.now.marks t c.requires.counted c.requires.none_left are)
     (omega (arith, long, flags_long, now.flags, now.counted.listed.few, count_by-le-length (λ flag. flag) flags.items, c.len-index-end.ensures)) are now.counted.listed.flags now.reached (now.sound t are)
 
-pub returns-clause-places : goal.returns-clause-places
-returns-clause-places c = λ p.
+pub returns-clause-found : goal.returns-clause-found
+returns-clause-found c =
     let now = c.loop-index.invariant in
     let marked = c.loop-index.self.marks.marked in
     let flags = c.loop-index.self.marks.flags in
     let long : vec_len marked ≡ length marked.items = search rules in
     let flags_long : vec_len flags ≡ length flags.items = search rules in
-    now.places p
-    ∙ ap (sum_by (λ v. one_if (λ at. at == p) (place_of (before c.args.place c.args.trail.now.entries) v)))
-    (take_all c.loop-index.index marked.items (omega (arith, long, flags_long, now.flags, now.counted.listed.few, count_by-le-length (λ flag. flag) flags.items, c.len-index-end.ensures)))
+    let rest = before c.args.place c.args.trail.now.entries in
+    let past : length marked.items ≤ c.loop-index.index = omega (arith, long, flags_long, now.flags, now.counted.listed.few, count_by-le-length (λ flag. flag) flags.items, c.len-index-end.ensures) in
+    record { listed = now.counted.listed; places = λ p. now.places p ∙ ap (sum_by (λ v. one_if (λ at. at == p) (place_of rest v))) (take_all c.loop-index.index marked.items past) }

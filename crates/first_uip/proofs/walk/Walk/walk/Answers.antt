@@ -10,7 +10,7 @@ use Rattle.first_uip.specs.declared.marks.Marks.{Marks}
 use Rattle.first_uip.proofs.Reading.{falsified_below, reasons_below}
 use Rattle.first_uip.proofs.Counted.{counted_clear}
 use Rattle.first_uip.proofs.Found.{none_is_left}
-use Rattle.first_uip.proofs.Gathered.{gathered_same, spare_same}
+use Rattle.first_uip.proofs.Gathered.{same_gathered, gathered_same, spare_same}
 use Rattle.first_uip.proofs.Settled.{rest_settles}
 use Rattle.first_uip.proofs.Standing.{fits_before}
 use Rattle.first_uip.proofs.walk.Walk.walk.Goals as goal
@@ -41,8 +41,8 @@ walk_level-place-requires-clause-reasons c =
     (sym (c.cite.ensures.flags ∙ (ap (λ (m : Marks). vec_len m.flags) c.begin.ensures.marks ∙ c.requires.idle.marks.len)))
     (reasons_below look (length c.args.trail.now.saved) c.args.trail.now.entries c.level-level.ensures.trail.within c.requires.fits)
 
-pub list_older-requires-clause-reasons : goal.list_older-requires-clause-reasons
-list_older-requires-clause-reasons c =
+pub find_older-requires-clause-reasons : goal.find_older-requires-clause-reasons
+find_older-requires-clause-reasons c =
     let look = lits_at (clauses_of c.args.pool.now) in
     subst (λ bound. AreReasonsBelow bound look c.args.trail.now.entries)
     (sym (c.walk_level-place.ensures.flags ∙ (c.cite.ensures.flags ∙ (ap (λ (m : Marks). vec_len m.flags) c.begin.ensures.marks ∙ c.requires.idle.marks.len))))
@@ -65,13 +65,18 @@ walk_level-place-requires-clause-spare c =
       touched = omega (arith, few, touched_empty, begun.touched, room.touched, ap vec_len c.cite.ensures.touched, ap vec_capacity c.cite.ensures.touched);
     }
 
--- nor more places than older entries
+-- the places are those of older entries, of which there are no more
+pub gather_older-requires-clause-within : goal.gather_older-requires-clause-within
+gather_older-requires-clause-within c = (c.sort_places.ensures.sorted c.args.trail.now.entries c.walk_level-place.result c.level-level.ensures.trail.distinct c.find_older.ensures.found).within
+
 pub gather_older-requires-clause-spare : goal.gather_older-requires-clause-spare
 gather_older-requires-clause-spare c =
-    let places = c.list_older.new.self.places in
-    let long : vec_len places ≡ length places.items = search rules in
-    spare_same c.walk_level-place.result (vec_len places) c.walk_level-place.new.self c.list_older.new.self (omega (arith, long, c.list_older.ensures.listed.few))
-    c.list_older.ensures.gathered c.walk_level-place.ensures.spare
+    let sorted = c.sort_places.ensures.sorted c.args.trail.now.entries c.walk_level-place.result c.level-level.ensures.trail.distinct c.find_older.ensures.found in
+    let came = c.walk_level-place.new.self in
+    let listed = c.sort_places.new.self in
+    let long : vec_len listed.places ≡ length listed.places.items = search rules in
+    spare_same c.walk_level-place.result (vec_len listed.places) came listed (omega (arith, long, sorted.few))
+    (same_gathered came c.find_older.new.self listed c.find_older.ensures.gathered c.sort_places.ensures.gathered) c.walk_level-place.ensures.spare
 
 -- the walk goes over the current level entry by entry, and over the rest by its marked entries
 pub returns-clause-gathered : goal.returns-clause-gathered
@@ -83,14 +88,17 @@ returns-clause-gathered c =
     let place = c.walk_level-place.result in
     let rest = before place entries in
     let came = c.walk_level-place.new.self in
-    let listed = c.list_older.new.self in
+    let found = c.find_older.new.self in
+    let listed = c.sort_places.new.self in
+    let sorted = c.sort_places.ensures.sorted entries place trail.distinct c.find_older.ensures.found in
     let begun = c.cite.ensures.traces blank_trace (c.begin.ensures.begins (length c.args.trail.now.saved + 1) level c.requires.idle.marks) in
     let walked = c.walk_level-place.ensures.walked (cited look c.args.conflict blank_trace) begun in
     let here = walked.trace_here in
     let fitting = fits_before look place entries (record { distinct = trail.distinct; fits = c.requires.fits; leveled = trail.leveled }) in
     let none = none_is_left level rest came.marks here c.walk_level-place.ensures.counted c.walk_level-place.ensures.none_left walked.stands.flagged in
-    let settles = rest_settles look level rest here (is_flagged listed.marks.flags.items) fitting none (c.list_older.ensures.marks here walked.stands.flagged) in
-    let gathered = c.gather_older.ensures.gathered look (flagged listed.marks.flags.items rest) here c.list_older.ensures.listed.at (gathered_same level came listed here c.list_older.ensures.gathered walked.stands.gathered) in
+    let settles = rest_settles look level rest here (is_flagged found.marks.flags.items) fitting none (c.find_older.ensures.marks here walked.stands.flagged) in
+    let gathered = c.gather_older.ensures.gathered look (flagged found.marks.flags.items rest) here sorted.at
+    (gathered_same level came listed here (same_gathered came found listed c.find_older.ensures.gathered c.sort_places.ensures.gathered) walked.stands.gathered) in
     let first = ap (λ marked. record { marked = marked; stays = []; hints = c.args.conflict ∷ []; touched = [] }) (append-nil (variables_of (look c.args.conflict))) in
     subst (λ now. IsGathered now c.gather_older.new.self (trace look now entries (first_trace look c.args.conflict))) c.level-level.ensures.value
     (subst (IsGathered level c.gather_older.new.self) (sym settles ∙ (walked.rest ∙ ap (trace look level entries) first)) gathered)
