@@ -1,16 +1,16 @@
 -- Counts of the flagged entries that are still to be met.
-use Rattle.std.proofs.Common.{◌≡◌, ℕ, ◌==◌, ◌+◌, ◌≤◌, ◌<◌, Bool, true, false, cond, ◌&&◌, ◌||◌, List, [], ◌∷◌, length, refl, ap, ◌∙◌, sym, subst, arith}
-use Rattle.std.specs.Prelude.{Option, Some, nat_lt}
-use Rattle.std.proofs.lemmas.Bool.{lt-ltb, eqb-true, eqb-false, eq-eqb, ne_eqb, cond-true, cond-false}
+use Rattle.std.proofs.Common.{◌≡◌, ℕ, ◌==◌, ◌+◌, ◌-◌, ◌≤◌, ◌<◌, Bool, true, false, cond, ◌&&◌, ◌||◌, List, [], ◌∷◌, length, refl, ap, ◌∙◌, sym, subst, arith}
+use Rattle.std.specs.Prelude.{Some, nat_lt}
+use Rattle.std.proofs.lemmas.Bool.{lt-ltb, eqb-true, eqb-false, eq-eqb, ne_eqb, cond-true}
+use Rattle.std.proofs.lemmas.List.{drop_all}
 use Rattle.std.proofs.lemmas.List.Sums.{sum_by-cons, count_by-le-length}
 use Rattle.lit_base.specs.declared.trail.Entry.{Entry}
-use Rattle.lit_base.specs.declared.name.Name.{Name}
-use Rattle.lit_base.specs.Literal.{Literal}
 use Rattle.lit_base.specs.Trail.{level_of, is_free}
 use Rattle.lit_base.specs.Fits.{HasDistinctVariables}
-use Rattle.lit_base.specs.Analysis.{Trace, is_marked, is_resolved, is_other_left, settle, touch, trace}
-use Rattle.first_uip.specs.Marks.{is_flagged, AreFlagsOf, flagged_count, any_level, this_level, one_if, AreListed, IsCounted, AreClear}
+use Rattle.lit_base.specs.Analysis.{is_other_left}
+use Rattle.first_uip.specs.Marks.{is_flagged, AreFlagsOf, flagged_count, this_level, one_if, AreListed, IsCounted, AreClear}
 use Rattle.first_uip.specs.declared.marks.Marks.{Marks}
+use Rattle.first_uip.specs.Places.{before}
 use Rattle.first_uip.proofs.Placed.{level_of-free}
 use Rattle.first_uip.proofs.Listed.{listed_clear, listed_same}
 
@@ -79,17 +79,14 @@ flagged_count-more test flags after v (e ∷ older) distinct one unset =
 -- nothing is counted where nothing is marked
 pub counted_clear : (n level : ℕ) (rest : List Entry) (m : Marks) → AreClear n m → IsCounted level rest m
 counted_clear n level rest m clear = record {
-  all = clear.pending ∙ sym (flagged_count-clear any_level m.flags.items rest clear.unset);
   of_level = clear.left ∙ sym (flagged_count-clear (this_level level) m.flags.items rest clear.unset);
   listed = listed_clear n m clear;
 }
 
--- marks with one flag more, and one more in the counts where its entry is among these
+-- marks with one flag more, and one more in the count where its entry is among these
 pub counted_more : (level v : ℕ) (rest : List Entry) (m after : Marks) → HasDistinctVariables rest → ((w : ℕ) → is_flagged after.flags.items w ≡ ((v == w) || is_flagged m.flags.items w)) →
-    is_flagged m.flags.items v ≡ false → after.pending ≡ m.pending + one_if any_level (level_of rest v) → after.left ≡ m.left + one_if (this_level level) (level_of rest v) → AreListed after →
-    IsCounted level rest m → IsCounted level rest after
-counted_more level v rest m after distinct one unset pending left listed counted = record {
-  all = omega (arith, pending, counted.all, flagged_count-more any_level m.flags.items after.flags.items v rest distinct one unset);
+    is_flagged m.flags.items v ≡ false → after.left ≡ m.left + one_if (this_level level) (level_of rest v) → AreListed after → IsCounted level rest m → IsCounted level rest after
+counted_more level v rest m after distinct one unset left listed counted = record {
   of_level = omega (arith, left, counted.of_level, flagged_count-more (this_level level) m.flags.items after.flags.items v rest distinct one unset);
   listed = listed;
 }
@@ -101,7 +98,6 @@ flag_at flags e v answer is same tested known = ap (is_flagged flags) (sym same)
 -- an entry without a flag doesn't count
 pub counted_passed : (level : ℕ) (e : Entry) (older : List Entry) (m : Marks) → is_flagged m.flags.items e.lit.variable ≡ false → IsCounted level (e ∷ older) m → IsCounted level older m
 counted_passed level e older m unset counted = record {
-  all = omega (arith, counted.all, flagged_count-cons any_level m.flags.items e older, one_where-false true (is_flagged m.flags.items e.lit.variable) unset);
   of_level = omega (
     arith,
     counted.of_level,
@@ -111,27 +107,22 @@ counted_passed level e older m unset counted = record {
   listed = counted.listed;
 }
 
--- a flagged entry counts, and where it is of the level it counts there
-pub counted_some : (level : ℕ) (e : Entry) (older : List Entry) (m : Marks) → is_flagged m.flags.items e.lit.variable ≡ true → IsCounted level (e ∷ older) m →
-    (0 < m.pending) × (e.level ≡ level → 0 < m.left)
-counted_some level e older m is_set counted = (
-  omega (arith, counted.all, flagged_count-cons any_level m.flags.items e older, one_where-true true (is_flagged m.flags.items e.lit.variable) is_set),
-  λ here. omega (
-    arith,
-    counted.of_level,
-    flagged_count-cons (this_level level) m.flags.items e older,
-    one_where-true (this_level level e.level) (is_flagged m.flags.items e.lit.variable) is_set,
-    cond-true {A = ℕ} (e.level == level) 1 0 (eq-eqb e.level level here),
-  ),
-)
+-- a flagged entry of the level counts
+pub counted_some : (level : ℕ) (e : Entry) (older : List Entry) (m : Marks) → is_flagged m.flags.items e.lit.variable ≡ true → IsCounted level (e ∷ older) m → e.level ≡ level → 0 < m.left
+counted_some level e older m is_set counted here =
+    omega (
+      arith,
+      counted.of_level,
+      flagged_count-cons (this_level level) m.flags.items e older,
+      one_where-true (this_level level e.level) (is_flagged m.flags.items e.lit.variable) is_set,
+      cond-true {A = ℕ} (e.level == level) 1 0 (eq-eqb e.level level here),
+    )
 
--- once it is taken out of the counts, they are those of the older entries
+-- once it is taken out of the count, that is the count of the older entries
 pub counted_met : (level : ℕ) (e : Entry) (older : List Entry) (m after : Marks) → is_flagged m.flags.items e.lit.variable ≡ true → after.flags ≡ m.flags → after.marked ≡ m.marked →
-    after.pending + 1 ≡ m.pending → after.left + cond (e.level == level) 1 0 ≡ m.left → IsCounted level (e ∷ older) m → IsCounted level older after
-counted_met level e older m after is_set same marked pending left counted =
+    after.left + cond (e.level == level) 1 0 ≡ m.left → IsCounted level (e ∷ older) m → IsCounted level older after
+counted_met level e older m after is_set same marked left counted =
     let items = ap (λ flags. flags.items) (sym same) in
-    let all : after.pending ≡ flagged_count any_level m.flags.items older =
-    omega (arith, pending, counted.all, flagged_count-cons any_level m.flags.items e older, one_where-true true (is_flagged m.flags.items e.lit.variable) is_set) in
     let of_level : after.left ≡ flagged_count (this_level level) m.flags.items older =
     omega (
       arith,
@@ -140,11 +131,13 @@ counted_met level e older m after is_set same marked pending left counted =
       flagged_count-cons (this_level level) m.flags.items e older,
       one_where-true (this_level level e.level) (is_flagged m.flags.items e.lit.variable) is_set,
     ) in
-    record {
-      all = all ∙ ap (λ flags. flagged_count any_level flags older) items;
-      of_level = of_level ∙ ap (λ flags. flagged_count (this_level level) flags older) items;
-      listed = listed_same m after same marked counted.listed;
-    }
+    record { of_level = of_level ∙ ap (λ flags. flagged_count (this_level level) flags older) items; listed = listed_same m after same marked counted.listed }
+
+-- none counts before the oldest entry
+pub counted_none : (level place : ℕ) (trail : List Entry) (m : Marks) → place ≡ 0 → IsCounted level (before place trail) m → m.left ≡ 0
+counted_none level place trail m is counted =
+    let past : length trail ≤ length trail - place = omega arith in
+    counted.of_level ∙ ap (flagged_count (this_level level) m.flags.items) (drop_all (length trail - place) trail past)
 
 -- whether another is left is whether the count is above none
 pub left_by_count : (level : ℕ) (flags : List Bool) (marked : List ℕ) (rest : List Entry) → AreFlagsOf marked flags → nat_lt 0 (flagged_count (this_level level) flags rest) ≡ is_other_left level marked rest
@@ -158,16 +151,3 @@ left_by_count level flags marked (e ∷ older) are =
     by_test : (b : Bool) (n : ℕ) → nat_lt 0 (cond b 1 0 + n) ≡ (b || nat_lt 0 n)
     by_test true n = lt-ltb 0 (1 + n) (omega arith)
     by_test false n = ap (λ m. nat_lt 0 m) (omega arith)
-
--- where none counts, the trace changes nothing
-pub trace_done : (look : Name → Option (List Literal)) (level : ℕ) (flags : List Bool) (rest : List Entry) (t : Trace) → AreFlagsOf t.marked flags → flagged_count any_level flags rest ≡ 0 →
-    trace look level rest t ≡ t
-trace_done look level flags [] t are none = refl
-trace_done look level flags (e ∷ older) t are none =
-    let unset : is_flagged flags e.lit.variable ≡ false = by_test (is_flagged flags e.lit.variable) (omega (arith, flagged_count-cons any_level flags e older)) in
-    ap (trace look level older) (cond-false (is_marked t.marked e.lit.variable) (settle look (is_resolved look level t.marked e older) e (touch e t)) t (sym (are e.lit.variable) ∙ unset))
-    ∙ trace_done look level flags older t are (omega (arith, flagged_count-cons any_level flags e older))
-  where
-    by_test : (b : Bool) → one_where true b ≡ 0 → b ≡ false
-    by_test true is = absurd (omega arith)
-    by_test false is = refl

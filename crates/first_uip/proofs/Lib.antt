@@ -4,3 +4,10 @@ pub mod Listed
 pub mod Counted
 pub mod Stepped
 pub mod Reading
+pub mod Marking
+pub mod Settled
+pub mod Standing
+pub mod Sorted
+pub mod Noted
+pub mod Gathered
+pub mod Found

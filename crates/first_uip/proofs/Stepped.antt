@@ -1,18 +1,19 @@
 -- A step of the walk, against that of the definition.
-use Rattle.std.proofs.Common.{◌≡◌, ℕ, ◌==◌, ◌+◌, ◌-◌, ◌≤◌, ◌<◌, Bool, true, false, ◌&&◌, ◌||◌, List, [], ◌∷◌, length, drop, refl, ap, ◌∙◌, sym, subst, arith}
-use Rattle.std.specs.Prelude.{Option, nat_lt}
+use Rattle.std.proofs.Common.{◌≡◌, ℕ, ◌==◌, ◌+◌, ◌-◌, ◌≤◌, ◌<◌, Bool, true, false, ◌&&◌, ◌||◌, List, [], ◌∷◌, length, drop, refl, ap, ◌∙◌, sym, arith}
+use Rattle.std.specs.Prelude.{Option, Some, None, nat_lt}
 use Rattle.std.proofs.lemmas.Bool.{cond-true, cond-false}
 use Rattle.std.proofs.lemmas.List.{drop-drop}
+use Rattle.std.proofs.lemmas.List.Folds.{list_any-append}
 use Rattle.lit_base.specs.Literal.{Literal}
 use Rattle.lit_base.specs.declared.trail.Entry.{Entry}
 use Rattle.lit_base.specs.declared.name.Name.{Name}
-use Rattle.lit_base.specs.Analysis.{Trace, is_marked, is_resolved, touch, settle, trace}
-use Rattle.first_uip.specs.Marks.{is_flagged, AreFlagsOf, flagged_count, this_level, IsCounted}
+use Rattle.lit_base.specs.Analysis.{Trace, variables_of, is_marked, is_resolved, touch, resolve, settle, trace}
+use Rattle.first_uip.specs.Marks.{is_flagged, AreFlagsOf, flagged_count, this_level}
 use Rattle.first_uip.specs.Places.{before}
-use Rattle.first_uip.specs.Walked.{Traces, first_step}
+use Rattle.first_uip.specs.Reasons.{reason_variables, resolved_variables}
+use Rattle.first_uip.specs.Walked.{Traces, IsWalked, first_step}
 use Rattle.first_uip.specs.declared.walk.Walk.{Walk}
-use Rattle.first_uip.specs.declared.marks.Marks.{Marks}
-use Rattle.first_uip.proofs.Counted.{left_by_count, trace_done}
+use Rattle.first_uip.proofs.Counted.{left_by_count}
 
 -- an entry whose flag isn't set is passed over
 pub step_unmarked : (look : Name → Option (List Literal)) (level : ℕ) (rest older : List Entry) (e : Entry) (flags : List Bool) (t : Trace) → rest ≡ e ∷ older → AreFlagsOf t.marked flags →
@@ -31,15 +32,20 @@ step_marked look level left rest older e flags resolved t is are is_set left_is 
     ∙ ap (λ b. settle look b e (touch e t))
     (sym (resolved_is ∙ ap (λ b. (e.level == 0) || ((e.level == level) && b)) (ap (λ n. nat_lt 0 n) left_is ∙ left_by_count level flags t.marked older are))))
 
--- counts of which the trace knows nothing
-pub traces_met : (level : ℕ) (walk : Walk) (after : Marks) (t : Trace) → after.flags ≡ walk.marks.flags → Traces level walk t → Traces level (record walk { marks = after }) t
-traces_met level walk after t same stands = record {
-  flagged = λ v. ap (λ flags. is_flagged flags.items v) same ∙ stands.flagged v;
-  lemma = stands.lemma;
-  jump = stands.jump;
-  turned = stands.turned;
-  met = stands.met;
-}
+-- what the reason of a resolved entry has is flagged
+settle_marks : (look : Name → Option (List Literal)) (e : Entry) (resolved : Bool) (t : Trace) (v : ℕ) →
+    is_marked (settle look resolved e t).marked v ≡ (is_marked (resolved_variables look resolved e.reason) v || is_marked t.marked v)
+settle_marks look e false t v = refl
+settle_marks look e true t v = by_reason e.reason
+  where
+    by_reason : (reason : Option Name) → is_marked (resolve look e reason t).marked v ≡ (is_marked (reason_variables look reason) v || is_marked t.marked v)
+    by_reason None = refl
+    by_reason (Some name) = list_any-append (λ m. m == v) (variables_of (look name)) t.marked
+
+pub settle_flags : (look : Name → Option (List Literal)) (e : Entry) (resolved : Bool) (t : Trace) (flags after : List Bool) → AreFlagsOf t.marked flags →
+    ((v : ℕ) → is_flagged after v ≡ (is_marked (resolved_variables look resolved e.reason) v || is_flagged flags v)) → AreFlagsOf (settle look resolved e (touch e t)).marked after
+settle_flags look e resolved t flags after are more v =
+    more v ∙ (ap (λ b. is_marked (resolved_variables look resolved e.reason) v || b) (are v) ∙ sym (settle_marks look e resolved (touch e t) v))
 
 -- the trace of some entries is their first step, and the trace of the others
 trace_first : (look : Name → Option (List Literal)) (level : ℕ) (rest : List Entry) (t : Trace) → trace look level rest t ≡ trace look level (drop 1 rest) (first_step look level rest t)
@@ -53,12 +59,6 @@ trace_next look level place trail t below =
     trace_first look level (before (place + 1) trail) t
     ∙ ap (λ rest. trace look level rest (first_step look level (before (place + 1) trail) t)) (drop-drop 1 (length trail - (place + 1)) trail ∙ ap (λ i. drop i trail) one_less)
 
--- a walk that has come down to a place: it stands at a trace from which the rest leads where the whole leads
-pub record IsWalked (look : Name → Option (List Literal)) (level place : ℕ) (trail : List Entry) (walk : Walk) (start : Trace) : Type 0 where
-  pub trace_here : Trace
-  pub stands : Traces level walk trace_here
-  pub rest : trace look level (before place trail) trace_here ≡ trace look level trail start
-
 -- one step further
 pub walked_more : (look : Name → Option (List Literal)) (level place : ℕ) (trail : List Entry) (walk after : Walk) (start : Trace) → 0 < place → place ≤ length trail →
     ((t : Trace) → Traces level walk t → Traces level after (first_step look level (before (place - 1 + 1) trail) t)) → IsWalked look level place trail walk start →
@@ -70,10 +70,3 @@ walked_more look level place trail walk after start above within step walked =
       stands = step walked.trace_here walked.stands;
       rest = sym (trace_next look level (place - 1) trail walked.trace_here (omega arith)) ∙ (ap (λ p. trace look level (before p trail) walked.trace_here) next ∙ walked.rest);
     }
-
--- where nothing marked is still to be met, the walk is done
-pub walked_done : (look : Name → Option (List Literal)) (level place : ℕ) (trail : List Entry) (walk : Walk) (start : Trace) → IsCounted level (before place trail) walk.marks →
-    walk.marks.pending ≡ 0 → IsWalked look level place trail walk start → Traces level walk (trace look level trail start)
-walked_done look level place trail walk start counted none walked =
-    let done = trace_done look level walk.marks.flags.items (before place trail) walked.trace_here walked.stands.flagged (sym counted.all ∙ none) in
-    subst (Traces level walk) (sym done ∙ walked.rest) walked.stands

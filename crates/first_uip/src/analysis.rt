@@ -33,7 +33,7 @@ impl Model for Analyser {
 }
 
 impl Analyser {
-    /// For trails of so many variables. Takes some 20 bytes and more for each of them.
+    /// For trails of so many variables. Takes some 30 bytes for each of them.
     pub fn make(alloc: Global, variables: u32) -> Result<Analyser, NoMemory>
         ensures { IfOk result (λ analyser. analyser ≡ variables) }
     {
@@ -47,8 +47,8 @@ impl Analyser {
     /// jump back to, and the variables above level 0 that were met.
     ///
     /// The trail must fit the held clauses, and the conflict must be falsified on it. Takes a step for each literal of
-    /// the clauses that become hints, and for each entry from the newest down to the oldest that is marked. Memory is
-    /// taken for the lesson alone.
+    /// the clauses that become hints, and for each entry of the current level down to the last that is marked, and then
+    /// sorts the places of the older entries that are marked. Memory is taken for the lesson alone.
     pub fn analyse(
         &mut self,
         pool: &Pool,

@@ -4,27 +4,32 @@ ghost use Rattle.lit_base.specs.Trail.{level_of};
 ghost use Rattle.lit_base.specs.Fits.{HasDistinctVariables};
 ghost use Rattle.lit_base.specs.declared.trail.Entry.{Entry};
 ghost use Rattle.trail_book.specs.TrailState.{IsTrail};
+ghost use Rattle.lit_base.specs.Named.{lits_at};
+ghost use Rattle.lit_base.specs.Held.{clauses_of};
+ghost use Rattle.lit_base.specs.Analysis.{is_marked};
 ghost use Rattle.first_uip.specs.Places.{before};
+ghost use Rattle.first_uip.specs.Reasons.{IsReasonBelow, resolved_variables};
 
+use crate::reads::lits_of;
+use clause_pool::Pool;
 use lit_base::{Entry, Lit, NoMemory};
 use std::alloc::Global;
 use trail_book::Trail;
 
-/// Which variables are marked, and how many marked entries are still to be met.
+/// Which variables are marked, and how many marked entries of the current level are still to be met.
 ///
-/// `flags` is by variable, and `marked` lists the variables whose flags are set, so that no others are cleared (as in
-/// MiniSat: Eén and Sörensson 2003). `pending` counts the marked entries that are still to be met, and `left` those of
-/// the current level among them.
+/// `flags` is by variable, and `marked` lists the variables whose flags are set, each once and in the order in which
+/// they were marked: no others are looked at once the current level is done, and no others are cleared (as in MiniSat:
+/// Eén and Sörensson 2003). `left` counts the marked entries of the current level that are still to be met.
 #[derive(Debug, Drop)]
 pub(crate) struct Marks {
     pub(crate) flags: Vec<bool>,
     pub(crate) marked: Vec<u32>,
-    pub(crate) pending: u32,
     pub(crate) left: u32,
 }
 
 impl Marks {
-    ghost use Rattle.first_uip.specs.Marks.{is_flagged, AreFlagsOf, AreClear, IsCounted, any_level, this_level, one_if};
+    ghost use Rattle.first_uip.specs.Marks.{is_flagged, AreFlagsOf, AreClear, IsCounted, GoesOn, this_level, one_if};
 
     /// No variable is marked, of so many.
     pub(crate) fn new(alloc: Global, variables: u32) -> Result<Marks, NoMemory>
@@ -34,7 +39,6 @@ impl Marks {
         Ok(Marks {
             flags: no_flags(alloc, count)?,
             marked: Vec::with_capacity(alloc, count)?,
-            pending: 0,
             left: 0,
         })
     }
@@ -55,32 +59,28 @@ impl Marks {
         entry.level == 0 || (entry.level == level && self.left > 0)
     }
 
-    /// Takes a marked entry that is met out of the counts.
+    /// Takes a marked entry that is met out of the count.
     pub(crate) fn meet(&mut self, level: u32, entry: &Entry)
         requires marked { is_flagged self.old.flags.items entry.now.lit.variable ≡ true }
         requires counted { (older : List Entry) × IsCounted level (entry.now ∷ older) self.old }
         ensures flags { self.new.flags ≡ self.old.flags }
         ensures counted { (older : List Entry) → IsCounted level (entry.now ∷ older) self.old → IsCounted level older self.new }
     {
-        self.pending -= 1;
         if entry.level == level {
             self.left -= 1;
         }
     }
 
-    /// Counts a variable that is newly marked: by the level of its entry, if that is still to be met.
+    /// Counts a variable that is newly marked, by the level of its entry, if that is still to be met.
     fn count(&mut self, level: u32, found: Option<u32>)
-        requires pending { self.old.pending ≤ 1000000 }
-        requires left { self.old.left ≤ 1000000 }
+        requires { self.old.left ≤ 1000000 }
         ensures flags { self.new.flags ≡ self.old.flags }
         ensures marked { self.new.marked ≡ self.old.marked }
-        ensures pending { self.new.pending ≡ self.old.pending + one_if any_level found }
         ensures left { self.new.left ≡ self.old.left + one_if (this_level level) found }
     {
         let Some(found) = found else {
             return;
         };
-        self.pending += 1;
         if found == level {
             self.left += 1;
         }
@@ -93,6 +93,7 @@ impl Marks {
         requires counted { IsCounted level (before place trail.now.entries) self.old }
         ensures room { vec_len self.new.flags ≡ vec_len self.old.flags }
         ensures flags { (v : ℕ) → is_flagged self.new.flags.items v ≡ ((var == v) || is_flagged self.old.flags.items v) }
+        ensures kept { GoesOn self.old.marked.items self.new.marked.items }
         ensures counted { IsCounted level (before place trail.now.entries) self.new }
     {
         if self.flags[var as usize] {
@@ -111,10 +112,38 @@ impl Marks {
         ensures room { vec_len self.new.flags ≡ vec_len self.old.flags }
         ensures marks { (marked : List ℕ) → AreFlagsOf marked self.old.flags.items →
             AreFlagsOf (map (λ l. l.variable) lits.now ++ marked) self.new.flags.items }
+        ensures kept { GoesOn self.old.marked.items self.new.marked.items }
         ensures counted { IsCounted level (before place trail.now.entries) self.new }
     {
         for lit in lits {
             self.mark(trail, level, place, lit.var());
+        }
+    }
+
+    /// Marks the variables of the reason of an entry that is resolved.
+    pub(crate) fn mark_reason(
+        &mut self,
+        pool: &Pool,
+        trail: &Trail,
+        level: u32,
+        place: usize,
+        entry: &Entry,
+        resolved: bool,
+    )
+        requires trail { IsTrail trail.now }
+        requires held { IsReasonBelow (vec_len self.old.flags) (lits_at (clauses_of pool.now)) entry.now.reason }
+        requires counted { IsCounted level (before place trail.now.entries) self.old }
+        ensures room { vec_len self.new.flags ≡ vec_len self.old.flags }
+        ensures flags { (v : ℕ) → is_flagged self.new.flags.items v ≡
+            (is_marked (resolved_variables (lits_at (clauses_of pool.now)) resolved entry.now.reason) v || is_flagged self.old.flags.items v) }
+        ensures kept { GoesOn self.old.marked.items self.new.marked.items }
+        ensures counted { IsCounted level (before place trail.now.entries) self.new }
+    {
+        if !resolved {
+            return;
+        }
+        if let Some(name) = entry.reason {
+            self.mark_all(trail, level, place, lits_of(pool, name));
         }
     }
 
@@ -125,7 +154,6 @@ impl Marks {
     {
         self.clear_flags();
         self.marked.clear();
-        self.pending = 0;
         self.left = 0;
     }
 

@@ -16,7 +16,7 @@ use trail_book::Trail;
 /// The literal of this variable.
 fn yes(variable: u32) -> Lit
     requires low { 1 ≤ variable }
-    requires high { variable ≤ 3 }
+    requires high { variable ≤ 8 }
     ensures { result ≡ plain variable }
 {
     Lit::of(variable, true)
@@ -25,7 +25,7 @@ fn yes(variable: u32) -> Lit
 /// Its negation.
 fn no(variable: u32) -> Lit
     requires low { 1 ≤ variable }
-    requires high { variable ≤ 3 }
+    requires high { variable ≤ 8 }
     ensures { result ≡ negated variable }
 {
     Lit::of(variable, false)
@@ -48,6 +48,25 @@ fn pool_of(alloc: Global, first: &[Lit], second: &[Lit], third: &[Lit]) -> Resul
     add(alloc, &mut pool, 0, first)?;
     add(alloc, &mut pool, 1, second)?;
     add(alloc, &mut pool, 2, third)?;
+    Ok(pool)
+}
+
+/// The pool of these and one more.
+fn pool_of_four(
+    alloc: Global,
+    first: &[Lit],
+    second: &[Lit],
+    third: &[Lit],
+    fourth: &[Lit],
+) -> Result<Pool, NoMemory>
+    ensures { IfOk result (λ pool. clauses_of pool ≡
+        named_from 0 (distinct first.now ∷ distinct second.now ∷ distinct third.now ∷ distinct fourth.now ∷ [])) }
+{
+    let mut pool = Pool::new(alloc);
+    add(alloc, &mut pool, 0, first)?;
+    add(alloc, &mut pool, 1, second)?;
+    add(alloc, &mut pool, 2, third)?;
+    add(alloc, &mut pool, 3, fourth)?;
     Ok(pool)
 }
 
@@ -89,6 +108,33 @@ fn root_trail(alloc: Global) -> Result<Trail, NoMemory>
     let mut trail = Trail::with_room(alloc, 2)?;
     trail.imply(yes(1), Name::original(0));
     trail.imply(yes(2), Name::original(1));
+    Ok(trail)
+}
+
+/// Variable 1 by the first clause and variable 2 by the second, then the decisions of 3 to 7, then variable 8 by the
+/// third clause.
+fn long_trail(alloc: Global) -> Result<Trail, NoMemory>
+    ensures entries { IfOk result (λ trail. trail.entries ≡
+        record { lit = plain 8; level = 5; reason = Some (original 2) }
+        ∷ record { lit = plain 7; level = 5; reason = None }
+        ∷ record { lit = plain 6; level = 4; reason = None }
+        ∷ record { lit = plain 5; level = 3; reason = None }
+        ∷ record { lit = plain 4; level = 2; reason = None }
+        ∷ record { lit = plain 3; level = 1; reason = None }
+        ∷ record { lit = plain 2; level = 0; reason = Some (original 1) }
+        ∷ record { lit = plain 1; level = 0; reason = Some (original 0) }
+        ∷ []) }
+    ensures saved { IfOk result (λ trail. length trail.saved ≡ 8) }
+{
+    let mut trail = Trail::with_room(alloc, 8)?;
+    trail.imply(yes(1), Name::original(0));
+    trail.imply(yes(2), Name::original(1));
+    trail.decide(yes(3));
+    trail.decide(yes(4));
+    trail.decide(yes(5));
+    trail.decide(yes(6));
+    trail.decide(yes(7));
+    trail.imply(yes(8), Name::original(2));
     Ok(trail)
 }
 
@@ -137,6 +183,31 @@ fn expect_two_levels(
     Ok(())
 }
 
+/// A conflict at level 5 that marks entries of levels 2 and 4, out of their order, and one of level 0, whose reason marks
+/// another.
+fn expect_long(rt: &impl Abort, alloc: Global) -> Result<(), NoMemory> {
+    let (first, second, clause) = ([yes(1)], [no(1), yes(2)], [no(2), no(7), yes(8)]);
+    let other = [no(4), no(2), no(8), no(6), no(7)];
+    let pool = pool_of_four(alloc, &first, &second, &clause, &other)?;
+    let mut analyser = Analyser::make(alloc, 8)?;
+    let lesson = analyser.analyse(&pool, &long_trail(alloc)?, Name::original(3))?;
+    let hints = [
+        Name::original(0),
+        Name::original(1),
+        Name::original(2),
+        Name::original(3),
+    ];
+    expect(
+        rt,
+        &lesson,
+        &[no(7), no(6), no(4)],
+        &hints,
+        4,
+        &[8, 7, 6, 4],
+    );
+    Ok(())
+}
+
 /// A conflict at level 0.
 fn expect_root(rt: &impl Abort, alloc: Global) -> Result<(), NoMemory> {
     let (first, clause, other) = ([yes(1)], [no(1), yes(2)], [no(2)]);
@@ -154,6 +225,7 @@ fn small_conflicts_teach_their_lessons(rt: HostRuntime) -> Result<(), Fail> {
     expect_forked(&rt, alloc, &mut analyser)?;
     expect_two_levels(&rt, alloc, &mut analyser)?;
     expect_forked(&rt, alloc, &mut analyser)?;
+    expect_long(&rt, alloc)?;
     expect_root(&rt, alloc)?;
     Ok(())
 }

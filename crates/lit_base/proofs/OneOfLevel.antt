@@ -49,12 +49,12 @@ each_on [] distinct = tt
 each_on (e ∷ older) distinct = (newest_on e older, each_when (IsOn older) (IsOn (e ∷ older)) (λ s on. older_on e older s distinct.0 on) older (each_on older distinct.1))
 
 -- an older entry's level is no higher
-older_level : (now level : ℕ) (reason : Option Name) → IsNextLevel now level reason → now ≤ level
+pub older_level : (now level : ℕ) (reason : Option Name) → IsNextLevel now level reason → now ≤ level
 older_level now level None next = let e : level ≡ now + 1 = next in omega arith
 older_level now level (Some name) next = let e : level ≡ now = next in omega arith
 
 -- no marked entry of a level is left above a trail of lower levels
-none_left_below : (level : ℕ) (marked : List ℕ) (rest : List Entry) → IsLeveled rest → level_now rest < level → is_other_left level marked rest ≡ false
+pub none_left_below : (level : ℕ) (marked : List ℕ) (rest : List Entry) → IsLeveled rest → level_now rest < level → is_other_left level marked rest ≡ false
 none_left_below level marked [] leveled low = refl
 none_left_below level marked (e ∷ older) leveled low =
     or_from ((e.level == level) && is_marked marked e.lit.variable) (is_other_left level marked older)

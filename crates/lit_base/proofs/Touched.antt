@@ -38,7 +38,7 @@ conflict_stands trail (Some lits) falsified v there =
     let found = marked_literal (is_false trail) lits v there falsified in not_free_from_false trail found.0 v found.1 found.2
 
 -- those of a reason are the entry's own, or stand on the older entries
-reason_stands : (older : List Entry) (l : Literal) (o : Option (List Literal)) → IsImpliedBy older l o → (v : ℕ) → is_marked (variables_of o) v ≡ true → (l.variable ≡ v) ⊎ (is_free older v ≡ false)
+pub reason_stands : (older : List Entry) (l : Literal) (o : Option (List Literal)) → IsImpliedBy older l o → (v : ℕ) → is_marked (variables_of o) v ≡ true → (l.variable ≡ v) ⊎ (is_free older v ≡ false)
 reason_stands older l None implied v there = absurd implied
 reason_stands older l (Some lits) implied v there =
     let found = marked_literal (λ m. is_false older m || same m l) lits v there implied.others in

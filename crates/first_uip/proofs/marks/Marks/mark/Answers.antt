@@ -1,6 +1,6 @@
-use Rattle.std.proofs.Common.{◌≡◌, ◌+◌, false, length, vec_len, vec_capacity, ap, ◌∙◌, arith, rules}
+use Rattle.std.proofs.Common.{◌≡◌, ◌+◌, false, [], ◌∷◌, length, vec_len, vec_capacity, ap, ◌∙◌, arith, rules}
 use Rattle.std.proofs.lemmas.Grind.{common_steps}
-use Rattle.first_uip.specs.Marks.{is_flagged, any_level, this_level, one_if}
+use Rattle.first_uip.specs.Marks.{is_flagged, this_level, one_if}
 use Rattle.first_uip.specs.Places.{before}
 use Rattle.first_uip.proofs.Placed.{before-distinct}
 use Rattle.first_uip.proofs.Flagged.{is_flagged-set}
@@ -29,6 +29,9 @@ returns-clause-counted c =
     counted_more c.args.level c.args.var (before c.args.place c.args.trail.now.entries) m after
     (before-distinct c.args.trail.now.entries c.args.place c.requires.trail.distinct)
     (λ v. ap (λ now. is_flagged now.items v) c.count.ensures.flags ∙ is_flagged-set m.flags.items c.args.var v (omega (arith, inside, c.requires.within))) unset
-    (c.count.ensures.pending ∙ ap (λ found. m.pending + one_if any_level found) c.level_before.ensures)
     (c.count.ensures.left ∙ ap (λ found. m.left + one_if (this_level c.args.level) found) c.level_before.ensures)
     listed c.requires.counted
+
+-- it is listed last
+pub returns-clause-kept : goal.returns-clause-kept
+returns-clause-kept c = record { more = c.args.var ∷ []; is = ap (λ marked. marked.items) c.count.ensures.marked ∙ c.push_reserved.ensures.items }

@@ -10,6 +10,5 @@ returns c = record {
   none_listed = c.in_ok-with_capacity.ensures.items;
   none = c.in_ok-with_capacity.ensures.len;
   room = c.in_ok-with_capacity.ensures.capacity;
-  pending = refl;
   left = refl;
 }

@@ -5,14 +5,14 @@ use Rattle.lit_base.specs.Analysis.{Trace}
 use Rattle.first_uip.specs.Marks.{IsCounted}
 use Rattle.first_uip.specs.Places.{before}
 use Rattle.first_uip.specs.Room.{HasSpare, IsSameRoom}
-use Rattle.first_uip.specs.Walked.{Traces}
-use Rattle.first_uip.proofs.Stepped.{IsWalked}
-use Rattle.first_uip.proofs.walk.Walk.walk_back.Given as goal
+use Rattle.first_uip.specs.Walked.{Traces, IsWalked}
+use Rattle.first_uip.proofs.walk.Walk.walk_level.Given as goal
 
 -- the walk has come down to this place
 abbrev pub invariant-loop-place : goal.invariant-loop-place
 invariant-loop-place l = record {
   flags : vec_len l.self.marks.flags ≡ vec_len l.initial.self.marks.flags;
+  places : l.self.places ≡ l.initial.self.places;
   counted : IsCounted l.level (before l.place l.trail.entries) l.self.marks;
   spare : HasSpare l.place l.self;
   room : IsSameRoom l.initial.self l.self;
