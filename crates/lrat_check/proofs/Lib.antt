@@ -1,0 +1,7 @@
+pub mod Statuses
+pub mod Walks
+pub mod Spans
+pub mod Arenas
+pub mod Moves
+pub mod Lives
+pub mod Ends

@@ -1,0 +1,72 @@
+-- The live clauses after additions and deletions, and the checker that has them.
+use Rattle.std.proofs.Common.{◌≡◌, ℕ, zero, suc, ◌+◌, ◌<◌, ◌≤◌, ◌==◌, Bool, true, false, cond, not, ◌||◌, List, [], ◌∷◌, ◌++◌, length, drop, refl, ap, sym, ◌∙◌, subst, arith, eqb-true, ne_eqb, eq-eqb}
+use Rattle.std.specs.Prelude.{Option, Some, None, find, filter, map, option_map, is_some, nat_le, IfSome, Result, Ok, Err}
+use Rattle.std.proofs.lemmas.Bool.Decides.{nat_tests}
+use Rattle.lit_base.specs.Literal.{Literal}
+use Rattle.lit_base.specs.Judgement.{LiveClause, Live, numbered_from, live_lits, with_lemma, without_id, added, deleted}
+use Rattle.lit_base.specs.declared.proof.ProofFault.{ProofFault}
+use Rattle.lit_base.specs.declared.proof.ProofFault.TheVariants as fault
+
+-- one clause more
+pub lits_more : (c : LiveClause) (clauses : List LiveClause) (n : ℕ) → live_lits (c ∷ clauses) n ≡ cond (c.id == n) (Some c.lits) (live_lits clauses n)
+lits_more c clauses n = by_id (c.id == n)
+  where
+    by_id : (b : Bool) → option_map (λ d. d.lits) (cond b (Some c) (find (λ d. d.id == n) clauses)) ≡ cond b (Some c.lits) (live_lits clauses n)
+    by_id true = refl
+    by_id false = refl
+
+same_id : (a b n : ℕ) → (a == b) ≡ true → (a == n) ≡ (b == n)
+same_id a b n is = ap (λ m. m == n) (eqb-true a b is)
+
+other_id : (a b n : ℕ) → (a == b) ≡ false → (a == n) ≡ true → (b == n) ≡ false
+other_id a b n differ is = grind (arith, nat_tests)
+
+-- one clause less
+pub lits_less : (id : ℕ) (clauses : List LiveClause) (n : ℕ) → live_lits (filter (λ c. not (c.id == id)) clauses) n ≡ cond (id == n) None (live_lits clauses n)
+lits_less id [] n = by_id (id == n)
+  where
+    by_id : (b : Bool) → (let o : Option (List Literal) = None in o) ≡ cond b None None
+    by_id true = refl
+    by_id false = refl
+lits_less id (c ∷ cs) n = by_first (c.id == id) refl
+  where
+    rest : Option (List Literal)
+    rest = live_lits cs n
+
+    dropped : (b : Bool) → cond b None rest ≡ cond b None (cond b (Some c.lits) rest)
+    dropped true = refl
+    dropped false = refl
+
+    kept : (b d : Bool) → (b ≡ true → d ≡ false) → cond b (Some c.lits) (cond d None rest) ≡ cond d None (cond b (Some c.lits) rest)
+    kept true d apart = let gone = apart refl in ap (λ e. cond e None (Some c.lits)) (sym gone)
+    kept false d apart = refl
+
+    by_first : (a : Bool) → (c.id == id) ≡ a → live_lits (cond (not a) (c ∷ filter (λ d. not (d.id == id)) cs) (filter (λ d. not (d.id == id)) cs)) n ≡ cond (id == n) None (live_lits (c ∷ cs) n)
+    by_first true is =
+        lits_less id cs n ∙ (dropped (id == n) ∙ ap (λ o. cond (id == n) None o) (ap (λ b. cond b (Some c.lits) rest) (sym (same_id c.id id n is)) ∙ sym (lits_more c cs n)))
+    by_first false is =
+        lits_more c (filter (λ d. not (d.id == id)) cs) n
+        ∙ (ap (λ o. cond (c.id == n) (Some c.lits) o) (lits_less id cs n)
+        ∙ (kept (c.id == n) (id == n) (other_id c.id id n is) ∙ ap (λ o. cond (id == n) None o) (sym (lits_more c cs n))))
+
+-- one clause more of a formula
+pub numbered_more : (clauses : List (List Literal)) (lits : List Literal) (first : ℕ) (n : ℕ) →
+    live_lits (numbered_from first (clauses ++ lits ∷ [])) n ≡ cond (first + length clauses == n) (Some lits) (live_lits (numbered_from first clauses) n)
+numbered_more [] lits first n = lits_more (record { id = first; lits = lits }) [] n ∙ ap (λ m. cond (m == n) (Some lits) None) (let e : first ≡ first + 0 = omega arith in e)
+numbered_more (c ∷ cs) lits first n =
+    lits_more (record { id = first; lits = c }) (numbered_from (first + 1) (cs ++ lits ∷ [])) n
+    ∙ (ap (λ o. cond (first == n) (Some c) o) (numbered_more cs lits (first + 1) n ∙ ap (λ m. cond (m == n) (Some lits) rest) (let e : first + 1 + length cs ≡ first + length (c ∷ cs) = omega arith in e))
+    ∙ (swapped (first == n) (first + length (c ∷ cs) == n) (λ is. other_id first (first + length (c ∷ cs)) n (ne_eqb first (first + length (c ∷ cs)) (λ e. omega (arith, e))) is)
+    ∙ ap (λ o. cond (first + length (c ∷ cs) == n) (Some lits) o) (sym (lits_more (record { id = first; lits = c }) (numbered_from (first + 1) cs) n))))
+  where
+    rest : Option (List Literal)
+    rest = live_lits (numbered_from (first + 1) cs) n
+
+    swapped : (b d : Bool) → (b ≡ true → d ≡ false) → cond b (Some c) (cond d (Some lits) rest) ≡ cond d (Some lits) (cond b (Some c) rest)
+    swapped true d apart = let gone = apart refl in ap (λ e. cond e (Some lits) (Some c)) (sym gone)
+    swapped false d apart = refl
+
+-- two look-ups that find the same give the same hints
+pub hints_alike : (look found : ℕ → Option (List Literal)) → ((n : ℕ) → look n ≡ found n) → (hints : List ℕ) → map look hints ≡ map found hints
+hints_alike look found alike [] = refl
+hints_alike look found alike (n ∷ ns) = ap (λ o. o ∷ map look ns) (alike n) ∙ ap (λ os. found n ∷ os) (hints_alike look found alike ns)

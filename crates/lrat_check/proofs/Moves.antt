@@ -1,0 +1,96 @@
+-- Parts that are moved to a packed arena.
+use Rattle.std.proofs.Common.{◌≡◌, ℕ, ◌+◌, ◌<◌, ◌≤◌, ◌==◌, ◌⊎◌, inl, inr, nat_cmp, eqb-true, Bool, true, false, cond, ◌&&◌, List, [], ◌∷◌, ◌++◌, length, refl, ap, sym, ◌∙◌, subst, arith, append_assoc, append-nil}
+use Rattle.std.specs.Prelude.{Option, Some, None, nat_le, slice_range}
+use Rattle.std.proofs.lemmas.List.{length-append, nil_from_length}
+use Rattle.std.specs.Cmp.{unsigned_tied}
+use Rattle.std.specs.BTreeMap.{BTreeMap, btree_map_len, get, is_at}
+use Rattle.std.specs.Map.{lookup}
+use Rattle.lit_base.specs.Literal.{Literal}
+use Rattle.lrat_check.specs.declared.table.Span.{Span}
+use Rattle.lrat_check.specs.Table.{part_of, part_at, first_of}
+use Rattle.lrat_check.specs.Clauses.{lits_in, IsPart}
+use Rattle.lrat_check.specs.Packing.{IsMoved, Grows}
+use Rattle.lrat_check.proofs.Spans.{part_is}
+use Rattle.lrat_check.proofs.Arenas.{lits_stay, part_stays, lits_added, part_added, lits_of_part}
+
+-- what was moved stays where the packed arena grows
+pub moved_stays : (literals packed after : List Literal) (old new : Option Span) → Grows packed after → IsMoved literals packed old new → IsMoved literals after old new
+moved_stays literals packed after old new grows moved =
+    subst (λ xs. IsMoved literals xs old new) (sym grows.1)
+    (record {
+      within = let size = length-append packed grows.0 in part_stays (length packed) (length (packed ++ grows.0)) new (omega (arith, size)) moved.within;
+      same = lits_stay packed grows.0 new moved.within ∙ moved.same;
+    })
+
+pub grows_more : (xs ys zs : List Literal) → Grows xs ys → Grows ys zs → Grows xs zs
+grows_more xs ys zs one two = (one.0 ++ two.0, two.1 ∙ (ap (λ ws. ws ++ two.0) one.1 ∙ append_assoc xs one.0 two.0))
+
+pub grows_not : (xs : List Literal) → Grows xs xs
+grows_not xs = ([], sym (append-nil xs))
+
+-- a part of none has no literals
+lits_of_span : (literals : List Literal) (s : Span) → lits_in literals (part_of (Some s)) ≡ lits_in literals (Some s)
+lits_of_span literals s = by_order (nat_le s.from s.to) refl
+  where
+    by_order : (b : Bool) → nat_le s.from s.to ≡ b → lits_in literals (cond b (Some s) None) ≡ lits_in literals (Some s)
+    by_order true is = refl
+    by_order false is = sym (ap (λ b. cond (b && nat_le s.to (length literals)) (Some (slice_range literals s.from s.to)) None) is)
+
+-- a part with these literals is moved behind the packed ones
+pub part_moved : (literals packed lits : List Literal) (old new : Span) → lits_in literals (Some old) ≡ Some lits → new.from ≡ length packed → new.to ≡ length packed + length lits →
+    IsMoved literals (packed ++ lits) (part_of (Some old)) (part_of (Some new))
+part_moved literals packed lits old new is start end =
+    subst (λ o. IsMoved literals (packed ++ lits) (part_of (Some old)) o) (sym (part_is new (omega (arith, start, end))))
+    (record {
+      within = part_added packed lits new start end;
+      same = lits_added packed lits new start end ∙ sym (lits_of_span literals old ∙ is);
+    })
+
+-- a span without literals goes
+pub none_moved : (literals packed : List Literal) (old new : Span) → lits_in literals (Some old) ≡ None → part_of (Some new) ≡ None → IsMoved literals packed (part_of (Some old)) (part_of (Some new))
+none_moved literals packed old new none gone =
+    subst (λ o. IsMoved literals packed (part_of (Some old)) o) (sym gone) (record { within = tt; same = sym (lits_of_span literals old ∙ none) })
+
+pub nothing_moved : (literals packed : List Literal) → IsMoved literals packed None None
+nothing_moved literals packed = record { within = tt; same = refl }
+
+-- where all parts were moved, each clause is found as before
+abbrev pub IsKept : List Literal → List Literal → Option Span → Option Span → Type 0
+IsKept literals packed old new = (lits_in packed new ≡ lits_in literals old) × IsPart (length packed) new
+
+pub first_moved : (literals packed : List Literal) (array array_after map map_after : Option Span) → IsPart (length literals) (first_of array map) →
+    IsMoved literals packed array array_after → IsMoved literals packed map map_after → IsKept literals packed (first_of array map) (first_of array_after map_after)
+first_moved literals packed None None map map_after within one two = (two.same, two.within)
+first_moved literals packed None (Some t) map map_after within one two = let found = sym (lits_of_part packed t one.within.0 one.within.1) ∙ one.same in cc
+first_moved literals packed (Some s) None map map_after within one two = let found = sym (lits_of_part literals s within.0 within.1) ∙ sym one.same in cc
+first_moved literals packed (Some s) (Some t) map map_after within one two = (one.same, one.within)
+
+-- a part of a map that is emptied into another: it is in the first still, or was moved to the other
+abbrev pub IsOnItsWay : List Literal → List Literal → Option Span → Option Span → Option Span → Type 0
+IsOnItsWay literals packed first left moved = ((left ≡ first) × (moved ≡ None)) ⊎ ((left ≡ None) × IsMoved literals packed (part_of first) (part_of moved))
+
+-- one part more is moved
+pub way_more : (literals packed after : List Literal) (b : Bool) (span new : Span) (first left left_after moved moved_after : Option Span) → Grows packed after →
+    left_after ≡ cond b None left → moved_after ≡ cond b (Some new) moved → (b ≡ true → left ≡ Some span) → IsMoved literals after (part_of (Some span)) (part_of (Some new)) →
+    IsOnItsWay literals packed first left moved → IsOnItsWay literals after first left_after moved_after
+way_more literals packed after true span new first left left_after moved moved_after grows lefts moves at now (inl way) =
+    inr (lefts, subst (λ o. IsMoved literals after (part_of first) (part_of o)) (sym moves) (subst (λ o. IsMoved literals after (part_of o) (part_of (Some new))) (sym (at refl) ∙ way.0) now))
+way_more literals packed after true span new first left left_after moved moved_after grows lefts moves at now (inr way) = let here = at refl in let gone = way.0 in cc
+way_more literals packed after false span new first left left_after moved moved_after grows lefts moves at now (inl way) = inl (lefts ∙ way.0, moves ∙ way.1)
+way_more literals packed after false span new first left left_after moved moved_after grows lefts moves at now (inr way) =
+    inr (lefts ∙ way.0, subst (λ o. IsMoved literals after (part_of first) (part_of o)) (sym moves) (moved_stays literals packed after (part_of first) (part_of moved) grows way.1))
+
+-- all are moved
+pub way_end : (literals packed : List Literal) (first left moved : Option Span) → left ≡ None → IsOnItsWay literals packed first left moved → IsMoved literals packed (part_of first) (part_of moved)
+way_end literals packed first left moved none (inl way) =
+    subst (λ o. IsMoved literals packed (part_of o) (part_of moved)) (sym none ∙ way.0)
+    (subst (λ o. IsMoved literals packed (part_of None) (part_of o)) (sym way.1) (nothing_moved literals packed))
+way_end literals packed first left moved none (inr way) = way.1
+
+-- a map without entries finds nothing
+pub none_found : (m : BTreeMap ℕ Span) (n : ℕ) → btree_map_len m ≡ 0 → get nat_cmp m n ≡ None
+none_found m n empty = ap (lookup (is_at (nat_cmp n))) (nil_from_length m.entries empty)
+
+-- what stands at the key that an order tells from no other
+pub at_key : (m : BTreeMap ℕ Span) (id n : ℕ) (s : Span) → get nat_cmp m id ≡ Some s → is_at (nat_cmp id) n ≡ true → get nat_cmp m n ≡ Some s
+at_key m id n s found is = ap (get nat_cmp m) (sym (eqb-true id n (sym (unsigned_tied id n) ∙ is))) ∙ found
