@@ -59,11 +59,6 @@ any_same (l ∷ ls) x =
 pub with_lit-is : (lits : List Literal) (x : Literal) → with_lit lits x ≡ with_new lits x
 with_lit-is lits x = ap (λ b. cond b lits (lits ++ x ∷ [])) (any_same lits x)
 
--- a literal is there where its place is
-pub any_place : (lits : List Literal) (x : Literal) → has lits x ≡ list_any (λ m. same m x) lits
-any_place [] x = refl
-any_place (l ∷ ls) x = ap (λ b. b || has ls x) (sym (same-places l x)) ∙ ap (λ b. same l x || b) (any_place ls x)
-
 -- behind all the literals no flag is set
 pub all_unset : (flags : List Bool) (lits : List Literal) (i : ℕ) → length lits ≤ i → ((k : ℕ) → get_or flags k false ≡ true → list_any (λ m. index_of m == k) (drop i lits) ≡ true) → (k : ℕ) → get_or flags k false ≡ false
 all_unset flags lits i all left k = by (get_or flags k false) refl

@@ -27,11 +27,11 @@ sound_start (Err found) later sound = let fault = fault_stays later found in cc
 -- where no line has a fault, none up to the first empty lemma has
 sound_front : (lines : List Line) (r : Result Live ProofFault) → is_ok (fold judged_line r lines) ≡ true → is_ok (fold judged_line r (up_to_empty lines)) ≡ true
 sound_front [] r sound = sound
-sound_front (line ∷ later) r sound = by_line (adds_empty line.step)
+sound_front (line ∷ later) r sound = by_line (adds_empty line.step) (sound_front later (judged_line r line) sound)
   where
-    by_line : (b : Bool) → is_ok (fold judged_line (judged_line r line) (cond b [] (up_to_empty later))) ≡ true
-    by_line true = sound_start (judged_line r line) later sound
-    by_line false = sound_front later (judged_line r line) sound
+    by_line : (b : Bool) → is_ok (fold judged_line (judged_line r line) (up_to_empty later)) ≡ true → is_ok (fold judged_line (judged_line r line) (cond b [] (up_to_empty later))) ≡ true
+    by_line true rest = sound_start (judged_line r line) later sound
+    by_line false rest = rest
 
 -- lines without a fault, one of which adds the empty lemma, are a proof that checks
 pub sound_checks : (cnf : Cnf) (lines : List Line) (live : Live) → judge cnf lines ≡ Ok live → add_empty lines ≡ true → Checks cnf lines

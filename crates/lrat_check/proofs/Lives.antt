@@ -28,7 +28,7 @@ lits_less id [] n = by_id (id == n)
     by_id : (b : Bool) → (let o : Option (List Literal) = None in o) ≡ cond b None None
     by_id true = refl
     by_id false = refl
-lits_less id (c ∷ cs) n = by_first (c.id == id) refl
+lits_less id (c ∷ cs) n = by_first (c.id == id) refl (lits_less id cs n)
   where
     rest : Option (List Literal)
     rest = live_lits cs n
@@ -41,12 +41,12 @@ lits_less id (c ∷ cs) n = by_first (c.id == id) refl
     kept true d apart = let gone = apart refl in ap (λ e. cond e None (Some c.lits)) (sym gone)
     kept false d apart = refl
 
-    by_first : (a : Bool) → (c.id == id) ≡ a → live_lits (cond (not a) (c ∷ filter (λ d. not (d.id == id)) cs) (filter (λ d. not (d.id == id)) cs)) n ≡ cond (id == n) None (live_lits (c ∷ cs) n)
-    by_first true is =
-        lits_less id cs n ∙ (dropped (id == n) ∙ ap (λ o. cond (id == n) None o) (ap (λ b. cond b (Some c.lits) rest) (sym (same_id c.id id n is)) ∙ sym (lits_more c cs n)))
-    by_first false is =
+    by_first : (a : Bool) → (c.id == id) ≡ a → live_lits (filter (λ d. not (d.id == id)) cs) n ≡ cond (id == n) None rest → live_lits (cond (not a) (c ∷ filter (λ d. not (d.id == id)) cs) (filter (λ d. not (d.id == id)) cs)) n ≡ cond (id == n) None (live_lits (c ∷ cs) n)
+    by_first true is later =
+        later ∙ (dropped (id == n) ∙ ap (λ o. cond (id == n) None o) (ap (λ b. cond b (Some c.lits) rest) (sym (same_id c.id id n is)) ∙ sym (lits_more c cs n)))
+    by_first false is later =
         lits_more c (filter (λ d. not (d.id == id)) cs) n
-        ∙ (ap (λ o. cond (c.id == n) (Some c.lits) o) (lits_less id cs n)
+        ∙ (ap (λ o. cond (c.id == n) (Some c.lits) o) later
         ∙ (kept (c.id == n) (id == n) (other_id c.id id n is) ∙ ap (λ o. cond (id == n) None o) (sym (lits_more c cs n))))
 
 -- one clause more of a formula

@@ -99,3 +99,23 @@ pub both_removed : (b : Bool) (array before map map_after : Option Span) → arr
     first_of array map_after ≡ cond b None (first_of before map)
 both_removed true array before map map_after is gone = ap (λ o. first_of o map_after) is ∙ gone
 both_removed false array before map map_after is same = ap (λ o. first_of o map_after) is ∙ ap (first_of before) same
+
+-- a part is written into the map
+pub part_written : (t b : Bool) (s : Span) (before after : Option Span) → s.from ≤ s.to → t ≡ b → after ≡ cond t (Some s) before → part_of after ≡ cond b (Some s) (part_of before)
+part_written t b s before after ordered same is = ap part_of is ∙ (by_test t ∙ ap (λ u. cond u (Some s) (part_of before)) same)
+  where
+    by_test : (u : Bool) → part_of (cond u (Some s) before) ≡ cond u (Some s) (part_of before)
+    by_test true = part_is s ordered
+    by_test false = refl
+
+-- it is taken out of the map
+pub part_unwritten : (t b : Bool) (before after : Option Span) → t ≡ b → after ≡ cond t None before → part_of after ≡ cond b None (part_of before)
+part_unwritten t b before after same is = ap part_of is ∙ (by_test t ∙ ap (λ u. cond u None (part_of before)) same)
+  where
+    by_test : (u : Bool) → part_of (cond u None before) ≡ cond u None (part_of before)
+    by_test true = refl
+    by_test false = refl
+
+-- an id past the array has no part there
+pub free_past : (spans : List Span) (id n : ℕ) → length spans ≤ id → (id == n) ≡ true → part_at spans n ≡ None
+free_past spans id n past is = part_past spans n (let same = eqb-true id n is in omega (arith, same, past))

@@ -49,12 +49,14 @@ impl Table {
         }
     }
 
-    /// Puts a part under an id, in the array where the id is at most this one. After `NoMemory` nothing is said of the table.
-    pub(crate) fn put(&mut self, id: u64, span: Span, most: u64) -> Result<(), NoMemory>
+    /// Puts a part under an id, in an array of so many places where the id is one. After `NoMemory` nothing is said of the
+    /// table.
+    pub(crate) fn put(&mut self, id: u64, span: Span, places: u64) -> Result<(), NoMemory>
         requires { span.from ≤ span.to }
         ensures { OnOk result ((n : ℕ) → span_at self.new n ≡ (if id == n then Some span else span_at self.old n)) }
     {
-        if id <= most || id < self.spans.len() as u64 {
+        let places = places.max(self.spans.len() as u64);
+        if id < places {
             put_at(&mut self.spans, id as usize, span)?;
         } else {
             self.leaps.insert(id, span)?;

@@ -1,6 +1,7 @@
 use crate::{CheckFault, Checker, Step, law_fault_refuses, law_judged_lines_are_sound};
 use lit_base::{Clause, Formula, Line, LineStep, List, Lit};
 use std::alloc::Global;
+use std::process::Abort;
 use std::test::Fail;
 
 /// A step of a proof, its literals by their DIMACS numbers.

@@ -1,0 +1,25 @@
+use Rattle.std.proofs.Common.{rules, ◌≡◌, ℕ, [], ◌∷◌, ◌++◌, List, Some, Ok, Err, IfOk, IfErr, IfSome, ◌+◌, ◌-◌, ◌*◌, ◌<◌, ◌≤◌, length, ◌/◌, ◌%◌, Bool, true, false, nat_eq, nat_lt, slice_index_or, slice_set, bit_and, bit_or, Fits, w8, w32, w64, Bor, MutBor}
+use Rattle.lit_base.specs.Cnf.{Cnf}
+use Rattle.lit_base.specs.Judgement.{Live, numbered_from, live_lits, judged_step, deleted, Checks, HasNoModel}
+use Rattle.lit_base.specs.declared.proof.Line.{Line}
+use Rattle.lit_base.specs.declared.proof.LineStep.TheVariants.{Add}
+use Rattle.lrat_check.specs.declared.checker.Step.TheVariants.{Empty}
+use Rattle.lrat_check.specs.Clauses.{lits_at, AreWithin}
+use Rattle.lrat_check.specs.Checking.{step_of, fault_of, Holds, GivesLive, HasJudged, Judges}
+use Rattle.lrat_check.proofs.checker.Checker.line.Goals as goal
+
+-- src/checker.rt:64:13
+pub returns-in-Some-clause-judged : goal.returns-in-Some-clause-judged
+returns-in-Some-clause-judged c = ?
+
+-- src/checker.rt:56:5
+pub returns-in-Ok-clause-judged : goal.returns-in-Ok-clause-judged
+returns-in-Ok-clause-judged c = ?
+
+-- src/checker.rt:56:5
+pub returns-in-Ok-clause-refuted : goal.returns-in-Ok-clause-refuted
+returns-in-Ok-clause-refuted c = ?
+
+-- src/checker.rt:56:5
+pub returns-in-Err-clause-judged : goal.returns-in-Err-clause-judged
+returns-in-Err-clause-judged c = ?
