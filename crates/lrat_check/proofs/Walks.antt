@@ -1,16 +1,18 @@
 -- A walk over hints depends on which literals are held true, and on nothing else of their list.
-use Rattle.std.proofs.Common.{◌≡◌, ℕ, ◌+◌, ◌==◌, arith, Bool, true, false, cond, not, ◌&&◌, ◌||◌, List, [], ◌∷◌, ◌++◌, refl, ap, sym, ◌∙◌, subst}
+use Rattle.std.proofs.Common.{◌≡◌, ℕ, ◌+◌, ◌==◌, arith, Bool, true, false, cond, not, ◌&&◌, ◌||◌, List, [], ◌∷◌, ◌++◌, ◌<◌, length, get_or, drop, refl, ap, sym, ◌∙◌, subst}
 use Rattle.std.specs.Prelude.{map, Option, Some, None, find}
 use Rattle.std.specs.List.{list_any, list_all}
 use Rattle.std.proofs.lemmas.Bool.Decides.{nat_tests}
 use Rattle.std.specs.Bool.{beq}
+use Rattle.std.proofs.lemmas.List.{drop_more}
 use Rattle.std.proofs.lemmas.List.Folds.{list_any-append}
 use Rattle.lit_base.specs.Literal.{Literal, negation, same}
 use Rattle.lit_base.specs.LitSet.{with_lit}
-use Rattle.lit_base.specs.Walk.{holds, fails, status_of, status_by, walk, walk_at, is_tautology}
+use Rattle.lit_base.specs.Walk.{holds, fails, status_of, status_by, walk, walk_at, is_tautology, judgement_of}
 use Rattle.lit_base.specs.declared.proof.ClauseStatus.{ClauseStatus}
 use Rattle.lit_base.specs.declared.proof.ClauseStatus.TheVariants.{Satisfied, Falsified, Implies, Unresolved}
 use Rattle.lit_base.specs.declared.proof.Judged.{Judged}
+use Rattle.lit_base.specs.declared.proof.Judged.TheVariants.{Follows}
 use Rattle.lit_base.proofs.DistinctLits.{same-true}
 
 -- the same literals are held true
@@ -103,3 +105,32 @@ negations_hold (k ∷ ks) l =
 -- where just the negations of a lemma are held true, one of its literals is true exactly where it is a tautology
 pub tautology_is : (known lemma : List Literal) → AreSame known (map negation lemma) → list_any (holds known) lemma ≡ is_tautology lemma
 tautology_is known lemma alike = any_alike (holds known) (fails lemma) (λ l. alike l ∙ negations_hold lemma l) lemma
+
+-- the next hint, by the clause that is found
+walk_read : (look : ℕ → Option (List Literal)) (hints : List ℕ) (i : ℕ) (known lits : List Literal) → i < length hints → look (get_or hints i 0) ≡ Some lits →
+    walk (i + 1) known (map look (drop i hints)) ≡ walk_at (i + 1) known (status_of known lits) (λ after. walk (i + 1 + 1) after (map look (drop (i + 1) hints)))
+walk_read look hints i known lits within found =
+    ap (λ ns. walk (i + 1) known (map look ns)) (drop_more hints i 0 within) ∙ ap (λ o. walk (i + 1) known (o ∷ map look (drop (i + 1) hints))) found
+
+-- its clause is satisfied
+pub walk_passes : (look : ℕ → Option (List Literal)) (hints : List ℕ) (i : ℕ) (known lits : List Literal) → i < length hints → look (get_or hints i 0) ≡ Some lits → status_of known lits ≡ Satisfied →
+    walk (i + 1) known (map look (drop i hints)) ≡ walk (i + 1 + 1) known (map look (drop (i + 1) hints))
+walk_passes look hints i known lits within found is =
+    walk_read look hints i known lits within found ∙ ap (λ s. walk_at (i + 1) known s (λ after. walk (i + 1 + 1) after (map look (drop (i + 1) hints)))) is
+
+-- it is unit
+pub walk_implies : (look : ℕ → Option (List Literal)) (hints : List ℕ) (i : ℕ) (known lits : List Literal) (l : Literal) → i < length hints → look (get_or hints i 0) ≡ Some lits →
+    status_of known lits ≡ Implies l → walk (i + 1) known (map look (drop i hints)) ≡ walk (i + 1 + 1) (with_lit known l) (map look (drop (i + 1) hints))
+walk_implies look hints i known lits l within found is =
+    walk_read look hints i known lits within found
+    ∙ (ap (λ s. walk_at (i + 1) known s (λ after. walk (i + 1 + 1) after (map look (drop (i + 1) hints)))) is
+    ∙ sym (walk_alike (map look (drop (i + 1) hints)) (i + 1 + 1) (with_lit known l) (l ∷ known) (with_lit_alike known l)))
+
+-- a tautology follows
+pub judged_tautology : (known lemma : List Literal) (hints : List (Option (List Literal))) → AreSame known (map negation lemma) → list_any (holds known) lemma ≡ true → judgement_of lemma hints ≡ Follows
+judged_tautology known lemma hints alike is = ap (λ b. cond b Follows (walk 1 (map negation lemma) hints)) (sym (tautology_is known lemma alike) ∙ is)
+
+-- any other lemma is judged by its hints
+pub judged_walk : (known lemma : List Literal) (hints : List (Option (List Literal))) → AreSame known (map negation lemma) → list_any (holds known) lemma ≡ false → judgement_of lemma hints ≡ walk 1 known hints
+judged_walk known lemma hints alike is =
+    ap (λ b. cond b Follows (walk 1 (map negation lemma) hints)) (sym (tautology_is known lemma alike) ∙ is) ∙ sym (walk_alike hints 1 known (map negation lemma) alike)
