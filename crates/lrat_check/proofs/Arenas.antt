@@ -61,8 +61,3 @@ lits_removed literals false before after is = ap (lits_in literals) is
 pub within_removed : (size : ℕ) (b : Bool) (before after : Option Span) → IsPart size before → after ≡ cond b None before → IsPart size after
 within_removed size true before after within is = subst (IsPart size) (sym is) tt
 within_removed size false before after within is = subst (IsPart size) (sym is) within
-
--- nothing is found, so nothing is taken out
-pub lits_absent : (b : Bool) (o : Option (List Literal)) → (b ≡ true → o ≡ None) → o ≡ cond b None o
-lits_absent true o none = none refl
-lits_absent false o none = refl

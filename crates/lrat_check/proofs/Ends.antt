@@ -1,7 +1,8 @@
 -- Which proofs check, by the judgement of their fronts.
 use Rattle.std.proofs.Common.{◌≡◌, Bool, true, false, cond, ◌&&◌, ◌||◌, List, [], ◌∷◌, ◌++◌, refl, ap, sym, ◌∙◌}
 use Rattle.std.specs.Prelude.{fold, is_ok, IsOk, Result, Ok, Err}
-use Rattle.std.proofs.lemmas.Bool.{and_from, and_right}
+use Rattle.std.proofs.lemmas.Bool.{and_from, and_right, or_left, or_right}
+use Rattle.std.proofs.lemmas.List.Folds.{list_any-append}
 use Rattle.std.proofs.lemmas.Grind.{fold-append}
 use Rattle.lit_base.specs.Cnf.{Cnf}
 use Rattle.lit_base.specs.declared.proof.Line.{Line}
@@ -9,7 +10,10 @@ use Rattle.lit_base.specs.declared.proof.ProofFault.{ProofFault}
 use Rattle.lit_base.specs.Judgement.{Live, first_live, judged_line, judge, adds_empty, add_empty, up_to_empty, checks, Checks}
 use Rattle.lit_base.proofs.ProofEnds.{up_to_empty-append}
 use Rattle.lrat_check.specs.declared.checker.Checker.{Checker}
-use Rattle.lrat_check.specs.Checking.{HasJudged}
+use Rattle.lrat_check.specs.declared.checker.Step.{Step}
+use Rattle.lrat_check.specs.declared.checker.Step.TheVariants.{More, Empty}
+use Rattle.lrat_check.specs.declared.fault.CheckFault.{CheckFault}
+use Rattle.lrat_check.specs.Checking.{step_of, HasJudged}
 
 -- the first fault stays
 fault_stays : (lines : List Line) (found : ProofFault) → fold judged_line (Err found) lines ≡ Err found
@@ -55,3 +59,13 @@ fault_refuses cnf lines rest line fault none faulty =
 pub judged_sound : (cnf : Cnf) (checker : Checker) (lines : List Line) → HasJudged cnf checker lines → IsOk (judge cnf lines)
 unfolding HasJudged
 judged_sound cnf checker lines judged = ap is_ok judged.1
+
+-- what is answered at the empty lemma
+pub empty_added : (lines : List Line) (line : Line) (step : Step) → step ≡ step_of line.step → (let r : Result Step CheckFault = Ok step in r) ≡ Ok Empty → add_empty (lines ++ line ∷ []) ≡ true
+empty_added lines line step is empty =
+    list_any-append (λ l. adds_empty l.step) lines (line ∷ [])
+    ∙ or_right (add_empty lines) (adds_empty line.step || false) (or_left (adds_empty line.step) false (by_step (adds_empty line.step) (sym is)))
+  where
+    by_step : (b : Bool) → cond b Empty More ≡ step → b ≡ true
+    by_step true same = refl
+    by_step false same = cc

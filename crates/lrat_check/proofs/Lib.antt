@@ -1,4 +1,3 @@
-pub mod Statuses
 pub mod Walks
 pub mod Spans
 pub mod Arenas

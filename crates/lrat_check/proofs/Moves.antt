@@ -23,36 +23,7 @@ moved_stays literals packed after old new grows moved =
       same = lits_stay packed grows.0 new moved.within ∙ moved.same;
     })
 
-pub grows_more : (xs ys zs : List Literal) → Grows xs ys → Grows ys zs → Grows xs zs
-grows_more xs ys zs one two = (one.0 ++ two.0, two.1 ∙ (ap (λ ws. ws ++ two.0) one.1 ∙ append_assoc xs one.0 two.0))
-
-pub grows_not : (xs : List Literal) → Grows xs xs
-grows_not xs = ([], sym (append-nil xs))
-
--- a part of none has no literals
-lits_of_span : (literals : List Literal) (s : Span) → lits_in literals (part_of (Some s)) ≡ lits_in literals (Some s)
-lits_of_span literals s = by_order (nat_le s.from s.to) refl
-  where
-    by_order : (b : Bool) → nat_le s.from s.to ≡ b → lits_in literals (cond b (Some s) None) ≡ lits_in literals (Some s)
-    by_order true is = refl
-    by_order false is = sym (ap (λ b. cond (b && nat_le s.to (length literals)) (Some (slice_range literals s.from s.to)) None) is)
-
--- a part with these literals is moved behind the packed ones
-pub part_moved : (literals packed lits : List Literal) (old new : Span) → lits_in literals (Some old) ≡ Some lits → new.from ≡ length packed → new.to ≡ length packed + length lits →
-    IsMoved literals (packed ++ lits) (part_of (Some old)) (part_of (Some new))
-part_moved literals packed lits old new is start end =
-    subst (λ o. IsMoved literals (packed ++ lits) (part_of (Some old)) o) (sym (part_is new (omega (arith, start, end))))
-    (record {
-      within = part_added packed lits new start end;
-      same = lits_added packed lits new start end ∙ sym (lits_of_span literals old ∙ is);
-    })
-
--- a span without literals goes
-pub none_moved : (literals packed : List Literal) (old new : Span) → lits_in literals (Some old) ≡ None → part_of (Some new) ≡ None → IsMoved literals packed (part_of (Some old)) (part_of (Some new))
-none_moved literals packed old new none gone =
-    subst (λ o. IsMoved literals packed (part_of (Some old)) o) (sym gone) (record { within = tt; same = sym (lits_of_span literals old ∙ none) })
-
-pub nothing_moved : (literals packed : List Literal) → IsMoved literals packed None None
+nothing_moved : (literals packed : List Literal) → IsMoved literals packed None None
 nothing_moved literals packed = record { within = tt; same = refl }
 
 -- where all parts were moved, each clause is found as before
@@ -105,29 +76,3 @@ all_moved literals packed before spans place n size all done = elim (cases_lt n 
 -- a part of a map that is emptied into another: it is in the first still, or was moved to the other
 abbrev pub IsOnItsWay : List Literal → List Literal → Option Span → Option Span → Option Span → Type 0
 IsOnItsWay literals packed first left moved = ((left ≡ first) × (moved ≡ None)) ⊎ ((left ≡ None) × IsMoved literals packed (part_of first) (part_of moved))
-
--- one part more is moved
-pub way_more : (literals packed after : List Literal) (b : Bool) (span new : Span) (first left left_after moved moved_after : Option Span) → Grows packed after →
-    left_after ≡ cond b None left → moved_after ≡ cond b (Some new) moved → (b ≡ true → left ≡ Some span) → IsMoved literals after (part_of (Some span)) (part_of (Some new)) →
-    IsOnItsWay literals packed first left moved → IsOnItsWay literals after first left_after moved_after
-way_more literals packed after true span new first left left_after moved moved_after grows lefts moves at now (inl way) =
-    inr (lefts, subst (λ o. IsMoved literals after (part_of first) (part_of o)) (sym moves) (subst (λ o. IsMoved literals after (part_of o) (part_of (Some new))) (sym (at refl) ∙ way.0) now))
-way_more literals packed after true span new first left left_after moved moved_after grows lefts moves at now (inr way) = let here = at refl in let gone = way.0 in cc
-way_more literals packed after false span new first left left_after moved moved_after grows lefts moves at now (inl way) = inl (lefts ∙ way.0, moves ∙ way.1)
-way_more literals packed after false span new first left left_after moved moved_after grows lefts moves at now (inr way) =
-    inr (lefts ∙ way.0, subst (λ o. IsMoved literals after (part_of first) (part_of o)) (sym moves) (moved_stays literals packed after (part_of first) (part_of moved) grows way.1))
-
--- all are moved
-pub way_end : (literals packed : List Literal) (first left moved : Option Span) → left ≡ None → IsOnItsWay literals packed first left moved → IsMoved literals packed (part_of first) (part_of moved)
-way_end literals packed first left moved none (inl way) =
-    subst (λ o. IsMoved literals packed (part_of o) (part_of moved)) (sym none ∙ way.0)
-    (subst (λ o. IsMoved literals packed (part_of None) (part_of o)) (sym way.1) (nothing_moved literals packed))
-way_end literals packed first left moved none (inr way) = way.1
-
--- a map without entries finds nothing
-pub none_found : (m : BTreeMap ℕ Span) (n : ℕ) → btree_map_len m ≡ 0 → get nat_cmp m n ≡ None
-none_found m n empty = ap (lookup (is_at (nat_cmp n))) (nil_from_length m.entries empty)
-
--- what stands at the key that an order tells from no other
-pub at_key : (m : BTreeMap ℕ Span) (id n : ℕ) (s : Span) → get nat_cmp m id ≡ Some s → is_at (nat_cmp id) n ≡ true → get nat_cmp m n ≡ Some s
-at_key m id n s found is = ap (get nat_cmp m) (sym (eqb-true id n (sym (unsigned_tied id n) ∙ is))) ∙ found

@@ -36,53 +36,6 @@ part_set (t ∷ ts) (suc place) s within zero = sym (ap (λ b. cond b (part_of (
 part_set (t ∷ ts) (suc place) s within (suc n) =
     part_set ts place s (omega arith) n ∙ sym (ap (λ b. cond b (part_of (Some s)) (part_at ts n)) (next-eqb place n))
 
--- one is added at its end
-part_push : (spans : List Span) (s : Span) (n : ℕ) → part_at (spans ++ s ∷ []) n ≡ cond (length spans == n) (part_of (Some s)) (part_at spans n)
-part_push [] s zero = refl
-part_push [] s (suc n) = sym (ap (λ b. cond b (part_of (Some s)) None) (zero-eqb n))
-part_push (t ∷ ts) s zero = sym (ap (λ b. cond b (part_of (Some s)) (part_of (Some t))) (eqb-zero (length ts)))
-part_push (t ∷ ts) s (suc n) = part_push ts s n ∙ sym (ap (λ b. cond b (part_of (Some s)) (part_at ts n)) (next-eqb (length ts) n))
-
--- spans that stand for none are added at its end
-part_holes : (spans : List Span) (count : ℕ) (s : Span) → part_of (Some s) ≡ None → (n : ℕ) → part_at (spans ++ replicate count s) n ≡ part_at spans n
-part_holes [] zero s hole n = refl
-part_holes [] (suc count) s hole zero = hole
-part_holes [] (suc count) s hole (suc n) = part_holes [] count s hole n
-part_holes (t ∷ ts) count s hole zero = refl
-part_holes (t ∷ ts) count s hole (suc n) = part_holes ts count s hole n
-
--- the array grows up to a place, and a part is put there
-pub part_put : (spans : List Span) (place : ℕ) (hole s : Span) → part_of (Some hole) ≡ None → length spans ≤ place → (n : ℕ) →
-    part_at ((take place spans ++ replicate (place - length spans) hole) ++ s ∷ []) n ≡ cond (place == n) (part_of (Some s)) (part_at spans n)
-part_put spans place hole s none past n =
-    part_push (take place spans ++ replicate (place - length spans) hole) s n
-    ∙ (ap (λ k. cond (k == n) (part_of (Some s)) (part_at (take place spans ++ replicate (place - length spans) hole) n)) size
-    ∙ ap (λ o. cond (place == n) (part_of (Some s)) o)
-    (ap (λ xs. part_at (xs ++ replicate (place - length spans) hole) n) whole ∙ part_holes spans (place - length spans) hole none n))
-  where
-    whole : take place spans ≡ spans
-    whole = take_all place spans past
-
-    size : length (take place spans ++ replicate (place - length spans) hole) ≡ place
-    size =
-        let joined = length-append (take place spans) (replicate (place - length spans) hole) in
-        let front = ap length whole in
-        let back = length-replicate (place - length spans) hole in
-        omega (arith, joined, front, back, past)
-
--- a part is taken out of the array
-pub part_cleared : (spans : List Span) (place : ℕ) (hole : Span) → part_of (Some hole) ≡ None → place < length spans → (n : ℕ) →
-    part_at (set spans place hole) n ≡ cond (place == n) None (part_at spans n)
-part_cleared spans place hole none within n = part_set spans place hole within n ∙ ap (λ o. cond (place == n) o (part_at spans n)) none
-
--- it isn't there
-pub part_absent : (spans : List Span) (place : ℕ) → length spans ≤ place → (n : ℕ) → part_at spans n ≡ cond (place == n) None (part_at spans n)
-part_absent spans place past n = by_place (place == n) refl
-  where
-    by_place : (b : Bool) → (place == n) ≡ b → part_at spans n ≡ cond b None (part_at spans n)
-    by_place true is = part_past spans n (let same = eqb-true place n is in omega (arith, same, past))
-    by_place false is = refl
-
 -- a part is put into the array
 pub first_put : (b : Bool) (s : Span) (other before after : Option Span) → after ≡ cond b (Some s) before → first_of after other ≡ cond b (Some s) (first_of before other)
 first_put true s other before after is = ap (λ o. first_of o other) is

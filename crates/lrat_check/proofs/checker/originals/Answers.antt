@@ -1,13 +1,12 @@
-use Rattle.std.proofs.Common.{rules, ◌≡◌, ℕ, [], ◌∷◌, ◌++◌, List, Some, Ok, Err, IfOk, IfErr, IfSome, ◌+◌, ◌-◌, ◌*◌, ◌<◌, ◌≤◌, length, ◌/◌, ◌%◌, Bool, true, false, nat_eq, nat_lt, slice_index_or, slice_set, bit_and, bit_or, Fits, w8, w32, w64, Bor, MutBor}
-use Rattle.lit_base.specs.Cnf.{Cnf}
-use Rattle.lit_base.specs.Judgement.{Live, numbered_from, live_lits, judged_step, deleted, Checks, HasNoModel}
-use Rattle.lit_base.specs.declared.proof.Line.{Line}
-use Rattle.lit_base.specs.declared.proof.LineStep.TheVariants.{Add}
-use Rattle.lrat_check.specs.declared.checker.Step.TheVariants.{Empty}
-use Rattle.lrat_check.specs.Clauses.{lits_at, AreWithin}
-use Rattle.lrat_check.specs.Checking.{step_of, fault_of, Holds, GivesLive, HasJudged, Judges}
+use Rattle.std.proofs.Common.{arith}
+use Rattle.lrat_check.specs.Clauses.{lits_at}
+use Rattle.lrat_check.proofs.Lives.{original_more}
 use Rattle.lrat_check.proofs.checker.originals.Goals as goal
 
--- src/checker.rt:133:5
+-- one clause more
 pub loop-index-preserved : goal.loop-index-preserved
-loop-index-preserved c = ?
+loop-index-preserved c = record {
+  found = original_more (lits_at c.loop-index.clauses) (lits_at c.put.new.self) c.args.formula.now c.loop-index.index c.lits.result.now c.index-formula-index.result (omega arith)
+      c.index-formula-index.is c.lits.ensures.value (c.in_ok-put.ensures.put c.loop-index.invariant.within) c.loop-index.invariant.found;
+  within = c.in_ok-put.ensures.within c.loop-index.invariant.within;
+}

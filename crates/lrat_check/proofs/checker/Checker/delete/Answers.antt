@@ -1,21 +1,39 @@
-use Rattle.std.proofs.Common.{rules, ◌≡◌, ℕ, [], ◌∷◌, ◌++◌, List, Some, Ok, Err, IfOk, IfErr, IfSome, ◌+◌, ◌-◌, ◌*◌, ◌<◌, ◌≤◌, length, ◌/◌, ◌%◌, Bool, true, false, nat_eq, nat_lt, slice_index_or, slice_set, bit_and, bit_or, Fits, w8, w32, w64, Bor, MutBor}
-use Rattle.lit_base.specs.Cnf.{Cnf}
-use Rattle.lit_base.specs.Judgement.{Live, numbered_from, live_lits, judged_step, deleted, Checks, HasNoModel}
-use Rattle.lit_base.specs.declared.proof.Line.{Line}
-use Rattle.lit_base.specs.declared.proof.LineStep.TheVariants.{Add}
-use Rattle.lrat_check.specs.declared.checker.Step.TheVariants.{Empty}
-use Rattle.lrat_check.specs.Clauses.{lits_at, AreWithin}
-use Rattle.lrat_check.specs.Checking.{step_of, fault_of, Holds, GivesLive, HasJudged, Judges}
+use Rattle.std.proofs.Common.{◌≤◌, ◌∙◌, get_or, length, refl, arith}
+use Rattle.lit_base.specs.Judgement.{without_id}
+use Rattle.lrat_check.specs.Clauses.{lits_at}
+use Rattle.lrat_check.proofs.Lives.{found_less, deletes_one, deletes_none, deletes_all}
 use Rattle.lrat_check.proofs.checker.Checker.delete.Goals as goal
 
--- src/checker.rt:119:17
+-- an id isn't that of a live clause
 pub returns-then-not-remove : goal.returns-then-not-remove
-returns-then-not-remove c = ?
+returns-then-not-remove c live holds =
+    let left = c.loop-index.invariant live holds in
+    left.1 ∙ deletes_none c.args.line c.args.ids.now c.loop-index.index left.0 (lits_at c.loop-index.self.clauses) c.loop-index-test.true left.2.found c.if-not-remove.ensures.found
 
--- src/checker.rt:117:9
+-- it is
 pub loop-index-preserved : goal.loop-index-preserved
-loop-index-preserved c = ?
+loop-index-preserved c live holds =
+    let left = c.loop-index.invariant live holds in
+    let id = get_or c.args.ids.now c.loop-index.index 0 in
+    (without_id id left.0,
+     left.1 ∙ deletes_one c.args.line c.args.ids.now c.loop-index.index left.0 (lits_at c.loop-index.self.clauses) c.loop-index-test.true left.2.found c.if-not-remove.ensures.found,
+     record {
+       last = left.2.last;
+       found = found_less (lits_at c.loop-index.self.clauses) (lits_at c.remove.new.self) id left.0 c.if-not-remove.ensures.removed left.2.found;
+       within = c.if-not-remove.ensures.within left.2.within;
+       sound = left.2.sound;
+     })
 
--- src/checker.rt:114:5
+-- all are deleted, and packing keeps the others
 pub returns : goal.returns
-returns c = ?
+returns c live holds =
+    let left = c.loop-index.invariant live holds in
+    let all : length c.args.ids.now ≤ c.loop-index.index = c.loop-index-test.false in
+    (left.0,
+     left.1 ∙ deletes_all c.args.line c.args.ids.now c.loop-index.index left.0 all,
+     record {
+       last = left.2.last;
+       found = λ n. c.in_ok-pack.ensures.same left.2.within n ∙ left.2.found n;
+       within = c.in_ok-pack.ensures.within left.2.within;
+       sound = left.2.sound;
+     })

@@ -1,25 +1,35 @@
-use Rattle.std.proofs.Common.{rules, ◌≡◌, ℕ, [], ◌∷◌, ◌++◌, List, Some, Ok, Err, IfOk, IfErr, IfSome, ◌+◌, ◌-◌, ◌*◌, ◌<◌, ◌≤◌, length, ◌/◌, ◌%◌, Bool, true, false, nat_eq, nat_lt, slice_index_or, slice_set, bit_and, bit_or, Fits, w8, w32, w64, Bor, MutBor}
-use Rattle.lit_base.specs.Cnf.{Cnf}
-use Rattle.lit_base.specs.Judgement.{Live, numbered_from, live_lits, judged_step, deleted, Checks, HasNoModel}
-use Rattle.lit_base.specs.declared.proof.Line.{Line}
-use Rattle.lit_base.specs.declared.proof.LineStep.TheVariants.{Add}
-use Rattle.lrat_check.specs.declared.checker.Step.TheVariants.{Empty}
-use Rattle.lrat_check.specs.Clauses.{lits_at, AreWithin}
-use Rattle.lrat_check.specs.Checking.{step_of, fault_of, Holds, GivesLive, HasJudged, Judges}
+use Rattle.std.proofs.Common.{◌≡◌, ◌∙◌, [], ◌∷◌, ◌++◌, List, ap, Ok, Err}
+use Rattle.std.proofs.lemmas.Option.{IfSome_then}
+use Rattle.lit_base.specs.Judgement.{judged_line}
+use Rattle.lrat_check.specs.Faults.{proof_fault}
+use Rattle.lrat_check.specs.Checking.{HasJudged}
+use Rattle.lrat_check.proofs.Ends.{judge_more, sound_checks, empty_added}
 use Rattle.lrat_check.proofs.checker.Checker.line.Goals as goal
 
--- src/checker.rt:64:13
+-- a checker that has judged lines has met no fault
 pub returns-in-Some-clause-judged : goal.returns-in-Some-clause-judged
-returns-in-Some-clause-judged c = ?
+unfolding HasJudged
+returns-in-Some-clause-judged c cnf lines judged = let none = judged.2.sound in let some = c.in-Some.is in cc
 
--- src/checker.rt:56:5
+-- the line has none
 pub returns-in-Ok-clause-judged : goal.returns-in-Ok-clause-judged
-returns-in-Ok-clause-judged c = ?
+unfolding HasJudged
+returns-in-Ok-clause-judged c cnf lines judged =
+    let given = c.in-Ok.ensures.live judged.0 judged.2 in
+    ((given.0, judge_more cnf lines c.args.line.now ∙ (ap (λ r. judged_line r c.args.line.now) judged.1 ∙ given.1), given.2), c.in-Ok.ensures.step)
 
--- src/checker.rt:56:5
+-- it adds the empty lemma, so the lines check
 pub returns-in-Ok-clause-refuted : goal.returns-in-Ok-clause-refuted
-returns-in-Ok-clause-refuted c = ?
+unfolding HasJudged
+returns-in-Ok-clause-refuted c cnf lines judged empty =
+    let given = c.in-Ok.ensures.live judged.0 judged.2 in
+    let checked = sound_checks cnf (lines ++ c.args.line.now ∷ []) given.0 (judge_more cnf lines c.args.line.now ∙ (ap (λ r. judged_line r c.args.line.now) judged.1 ∙ given.1))
+        (empty_added lines c.args.line.now c.in-Ok.step c.in-Ok.ensures.step empty)
+    in (checked, c.law_checked_proof_refutes.ensures cnf (lines ++ c.args.line.now ∷ []) checked)
 
--- src/checker.rt:56:5
+-- it has a fault, which is the first
 pub returns-in-Err-clause-judged : goal.returns-in-Err-clause-judged
-returns-in-Err-clause-judged c = ?
+unfolding HasJudged
+returns-in-Err-clause-judged c cnf lines judged =
+    IfSome_then (proof_fault c.in-Err.fault) (c.in-Err.ensures.live judged.0 judged.2)
+    (λ found is. judge_more cnf lines c.args.line.now ∙ (ap (λ r. judged_line r c.args.line.now) judged.1 ∙ is))

@@ -1,13 +1,16 @@
-use Rattle.std.proofs.Common.{rules, ◌≡◌, ℕ, [], ◌∷◌, ◌++◌, List, Some, Ok, Err, IfOk, IfErr, IfSome, ◌+◌, ◌-◌, ◌*◌, ◌<◌, ◌≤◌, length, ◌/◌, ◌%◌, Bool, true, false, nat_eq, nat_lt, slice_index_or, slice_set, bit_and, bit_or, Fits, w8, w32, w64, Bor, MutBor}
-use Rattle.lit_base.specs.Cnf.{Cnf}
-use Rattle.lit_base.specs.Judgement.{Live, numbered_from, live_lits, judged_step, deleted, Checks, HasNoModel}
-use Rattle.lit_base.specs.declared.proof.Line.{Line}
-use Rattle.lit_base.specs.declared.proof.LineStep.TheVariants.{Add}
-use Rattle.lrat_check.specs.declared.checker.Step.TheVariants.{Empty}
-use Rattle.lrat_check.specs.Clauses.{lits_at, AreWithin}
-use Rattle.lrat_check.specs.Checking.{step_of, fault_of, Holds, GivesLive, HasJudged, Judges}
+use Rattle.std.proofs.Common.{◌∙◌, ap, refl}
+use Rattle.lit_base.specs.Judgement.{first_live, numbered_from, live_lits}
+use Rattle.lrat_check.specs.Checking.{HasJudged}
 use Rattle.lrat_check.proofs.checker.Checker.make.Goals as goal
 
--- src/checker.rt:41:5
 pub returns : goal.returns
-returns c = ?
+unfolding HasJudged
+returns c =
+    (first_live c.args.formula.now,
+     refl,
+     record {
+       last = c.len.ensures.value;
+       found = λ id. c.in_ok-originals.ensures.found id ∙ ap (λ clauses. live_lits (numbered_from 1 clauses) id) c.clauses.ensures.value;
+       within = c.in_ok-originals.ensures.within;
+       sound = refl;
+     })
