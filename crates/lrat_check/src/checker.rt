@@ -64,7 +64,7 @@ impl Checker {
             return Err(fault);
         }
         match self.step(line) {
-            Ok(step) => Ok(step),
+            Ok(()) => Ok(step_of(&line.step)),
             Err(fault) => {
                 self.fault = Some(fault);
                 Err(fault)
@@ -72,23 +72,15 @@ impl Checker {
         }
     }
 
-    fn step(&mut self, line: &Line) -> Result<Step, CheckFault>
-        ensures live { (live : Live) → Holds self.old live → GivesLive self.new result (judged_step line.now.line line.now.step live) }
-        ensures step { IfOk result (λ step. step ≡ step_of line.now.step) }
+    /// Judges the step of a line.
+    fn step(&mut self, line: &Line) -> Result<(), CheckFault>
+        ensures { (live : Live) → Holds self.old live → GivesLive self.new result (judged_step line.now.line line.now.step live) }
     {
         match &line.step {
             LineStep::Add { id, lits, hints } => {
-                self.add(line.line, *id, lits.as_slice(), hints.as_slice())?;
-                if lits.is_empty() {
-                    Ok(Step::Empty)
-                } else {
-                    Ok(Step::More)
-                }
+                self.add(line.line, *id, lits.as_slice(), hints.as_slice())
             }
-            LineStep::Delete { ids, .. } => {
-                self.delete(line.line, ids.as_slice())?;
-                Ok(Step::More)
-            }
+            LineStep::Delete { ids, .. } => self.delete(line.line, ids.as_slice()),
         }
     }
 
@@ -121,6 +113,16 @@ impl Checker {
         }
         self.clauses.pack()?;
         Ok(())
+    }
+}
+
+/// What a step does, where it has no fault.
+fn step_of(step: &LineStep) -> Step
+    ensures { result ≡ step_of step.now }
+{
+    match step {
+        LineStep::Add { lits, .. } if lits.is_empty() => Step::Empty,
+        _ => Step::More,
     }
 }
 

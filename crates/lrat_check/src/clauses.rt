@@ -9,6 +9,7 @@ use std::alloc::Global;
 /// So many places the table's array may have whatever comes, and so many for each clause that was ever put in: at most 128
 /// bytes for each. Proofs that were trimmed leave many ids out.
 const FIRST_PLACES: u64 = 4096;
+
 const PLACES_FOR_A_CLAUSE: u64 = 8;
 
 /// Room is taken back where so many literals are those of removed clauses, and more than half of all.
@@ -58,7 +59,8 @@ impl Clauses {
         let span = put_literals(&mut self.literals, lits)?;
         self.added = self.added.saturating_add(1);
         let places = self.added.saturating_mul(PLACES_FOR_A_CLAUSE);
-        self.table.put(id, span, places.saturating_add(FIRST_PLACES))
+        self.table
+            .put(id, span, places.saturating_add(FIRST_PLACES))
     }
 
     /// Takes the clause with this id out, and answers whether there was one.

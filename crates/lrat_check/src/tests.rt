@@ -69,6 +69,7 @@ const SQUARE: [&[i32]; 4] = [&[1, 2], &[1, -2], &[-1, 2], &[-1, -2]];
 
 /// The least id that leaps whatever came before, and the greatest that a line may have.
 const FAR: u64 = 9_223_372_036_854_775_806;
+
 const LAST: u64 = 9_223_372_036_854_775_807;
 
 #[test]
@@ -151,7 +152,10 @@ fn room_of_deleted_clauses_is_taken_back(rt: HostRuntime) -> Result<(), Fail> {
     let alloc = rt.alloc();
     let mut checker = checker_of(&rt, alloc, &SQUARE)?;
     let wide = [1, 3, -4, 5, 6, -7, 8, 9];
-    assert_eq!(rt; answer(&rt, alloc, &mut checker, &[Add(FAR / 2, &[1], &[1, 2])])?, Ok(Step::More));
+    assert_eq!(rt;
+        answer(&rt, alloc, &mut checker, &[Add(FAR / 2, &[1], &[1, 2])])?,
+        Ok(Step::More)
+    );
     for turn in 0..20_000 {
         let id = FAR / 2 + 1 + turn;
         let steps = [Add(id, &wide, &[FAR / 2]), Delete(&[id])];
@@ -165,11 +169,21 @@ fn room_of_deleted_clauses_is_taken_back(rt: HostRuntime) -> Result<(), Fail> {
 #[test]
 fn faults_tell_their_line_place_and_name(rt: HostRuntime) {
     for (fault, line, place, name) in [
-        (CheckFault::IdNotRising(7), 7, None, b"IdNotRising".as_slice()),
+        (
+            CheckFault::IdNotRising(7),
+            7,
+            None,
+            b"IdNotRising".as_slice(),
+        ),
         (CheckFault::UnknownHint(1, 3), 1, Some(3), b"UnknownHint"),
         (CheckFault::NotUnit(2, 1), 2, Some(1), b"NotUnit"),
         (CheckFault::NotFalsified(3), 3, None, b"NotFalsified"),
-        (CheckFault::UnknownDelete(4, 2), 4, Some(2), b"UnknownDelete"),
+        (
+            CheckFault::UnknownDelete(4, 2),
+            4,
+            Some(2),
+            b"UnknownDelete",
+        ),
         (CheckFault::NoMemory, 0, None, b"NoMemory"),
     ] {
         assert_eq!(rt; fault.line(), line);

@@ -15,21 +15,21 @@ returns-in-Some-clause-judged c cnf lines judged = let none = judged.2.sound in 
 pub returns-in-Ok-clause-judged : goal.returns-in-Ok-clause-judged
 unfolding HasJudged
 returns-in-Ok-clause-judged c cnf lines judged =
-    let given = c.in-Ok.ensures.live judged.0 judged.2 in
-    ((given.0, judge_more cnf lines c.args.line.now ∙ (ap (λ r. judged_line r c.args.line.now) judged.1 ∙ given.1), given.2), c.in-Ok.ensures.step)
+    let given = c.in-Ok.ensures judged.0 judged.2 in
+    ((given.0, judge_more cnf lines c.args.line.now ∙ (ap (λ r. judged_line r c.args.line.now) judged.1 ∙ given.1), given.2), c.step_of.ensures)
 
 -- it adds the empty lemma, so the lines check
 pub returns-in-Ok-clause-refuted : goal.returns-in-Ok-clause-refuted
 unfolding HasJudged
 returns-in-Ok-clause-refuted c cnf lines judged empty =
-    let given = c.in-Ok.ensures.live judged.0 judged.2 in
+    let given = c.in-Ok.ensures judged.0 judged.2 in
     let checked = sound_checks cnf (lines ++ c.args.line.now ∷ []) given.0 (judge_more cnf lines c.args.line.now ∙ (ap (λ r. judged_line r c.args.line.now) judged.1 ∙ given.1))
-        (empty_added lines c.args.line.now c.in-Ok.step c.in-Ok.ensures.step empty)
+    (empty_added lines c.args.line.now c.step_of.result c.step_of.ensures empty)
     in (checked, c.law_checked_proof_refutes.ensures cnf (lines ++ c.args.line.now ∷ []) checked)
 
 -- it has a fault, which is the first
 pub returns-in-Err-clause-judged : goal.returns-in-Err-clause-judged
 unfolding HasJudged
 returns-in-Err-clause-judged c cnf lines judged =
-    IfSome_then (proof_fault c.in-Err.fault) (c.in-Err.ensures.live judged.0 judged.2)
+    IfSome_then (proof_fault c.in-Err.fault) (c.in-Err.ensures judged.0 judged.2)
     (λ found is. judge_more cnf lines c.args.line.now ∙ (ap (λ r. judged_line r c.args.line.now) judged.1 ∙ is))

@@ -10,9 +10,9 @@ unfolding lits_at AreWithin
 returns-clause-put c within =
     on_ok_weaker c.put.result
     (λ spans n.
-        ap (λ literals. lits_in literals (span_at c.put.new.self n)) c.in_ok-span.ensures.literals
-        ∙ lits_put c.args.self.now.literals.items c.args.lits.now c.in_ok-span.span (c.args.id == n) (span_at c.args.self.now.table n) (span_at c.put.new.self n)
-        c.in_ok-span.ensures.from c.in_ok-span.ensures.to (within n) (spans n))
+    ap (λ literals. lits_in literals (span_at c.put.new.self n)) c.in_ok-span.ensures.literals
+    ∙ lits_put c.args.self.now.literals.items c.args.lits.now c.in_ok-span.span (c.args.id == n) (span_at c.args.self.now.table n) (span_at c.put.new.self n)
+    c.in_ok-span.ensures.from c.in_ok-span.ensures.to (within n) (spans n))
     c.put.ensures
 
 pub returns-clause-within : goal.returns-clause-within
@@ -20,7 +20,7 @@ unfolding AreWithin
 returns-clause-within c within =
     on_ok_weaker c.put.result
     (λ spans n.
-        subst (λ literals. IsPart (length literals) (span_at c.put.new.self n)) (sym c.in_ok-span.ensures.literals)
-        (within_put c.args.self.now.literals.items c.args.lits.now c.in_ok-span.span (c.args.id == n) (span_at c.args.self.now.table n) (span_at c.put.new.self n)
-        c.in_ok-span.ensures.from c.in_ok-span.ensures.to (within n) (spans n)))
+    subst (λ literals. IsPart (length literals) (span_at c.put.new.self n)) (sym c.in_ok-span.ensures.literals)
+    (within_put c.args.self.now.literals.items c.args.lits.now c.in_ok-span.span (c.args.id == n) (span_at c.args.self.now.table n) (span_at c.put.new.self n)
+    c.in_ok-span.ensures.from c.in_ok-span.ensures.to (within n) (spans n)))
     c.put.ensures
