@@ -4,142 +4,122 @@ use std::alloc::Global;
 use std::process::Abort;
 use std::test::Fail;
 
-/// A step of a proof, its literals by their DIMACS numbers.
-#[derive(Clone, Copy)]
-enum Stepped<'a> {
-    Add(u64, &'a [i32], &'a [u64]),
-    Delete(&'a [u64]),
-}
-
-use Stepped::{Add, Delete};
-
-/// The literals of these numbers.
-fn lits_of(rt: &impl Abort, alloc: Global, numbers: &[i32]) -> Result<List<Lit>, Fail> {
-    let mut lits = List::new(alloc);
-    for number in numbers {
-        lits.push(Lit::new(*number).expect(rt, "a literal"))?;
-    }
-    Ok(lits)
-}
-
-/// A checker of the formula of these clauses over nine variables.
-fn checker_of(rt: &impl Abort, alloc: Global, clauses: &[&[i32]]) -> Result<Checker, Fail> {
-    let mut formula = Formula::new(alloc, 9);
-    for numbers in clauses {
-        let clause = Clause::of(alloc, lits_of(rt, alloc, numbers)?.as_slice())?;
+/// A checker of the formula of the four clauses over two variables, which no model satisfies.
+fn square(rt: &impl Abort, alloc: Global) -> Result<Checker, Fail> {
+    let mut formula = Formula::new(alloc, 2);
+    for numbers in [[1, 2], [1, -2], [-1, 2], [-1, -2]] {
+        let mut lits = List::new(alloc);
+        for number in numbers {
+            lits.push(Lit::new(number).expect(rt, "a literal"))?;
+        }
+        let clause = Clause::of(alloc, lits.as_slice())?;
         assert!(rt; clause.is_within(formula.variables()) && formula.len() < 4_000_000);
         formula.push(clause)?;
     }
     Ok(Checker::make(alloc, &formula)?)
 }
 
-/// What the checker answers at the last of these steps, or at the first with a fault; the lines are numbered from 1.
+/// A well-formed line, with this number.
+fn line_of(rt: &impl Abort, alloc: Global, number: u64, text: &str) -> Result<Line, Fail> {
+    let mut id = 0;
+    let mut lits = List::new(alloc);
+    let mut ids = List::new(alloc);
+    let mut deletes = false;
+    let mut closed = false;
+    for (place, word) in text.split(' ').enumerate() {
+        if place == 0 {
+            id = word.parse::<u64>().expect(rt, "an id");
+        } else if word == "d" || word == "0" {
+            deletes = deletes || word == "d";
+            closed = true;
+        } else if closed {
+            ids.push(word.parse::<u64>().expect(rt, "an id"))?;
+        } else {
+            let lit = Lit::new(word.parse::<i32>().expect(rt, "a number"));
+            lits.push(lit.expect(rt, "a literal"))?;
+        }
+    }
+    let step = if deletes {
+        LineStep::Delete { id, ids }
+    } else {
+        LineStep::Add {
+            id,
+            lits,
+            hints: ids,
+        }
+    };
+    Ok(Line { line: number, step })
+}
+
+/// What the checker answers at the last of these lines, or at the first with a fault; `/` stands between lines.
 fn answer(
     rt: &impl Abort,
     alloc: Global,
     checker: &mut Checker,
-    steps: &[Stepped<'_>],
+    proof: &str,
 ) -> Result<Result<Step, CheckFault>, Fail> {
     let mut last = Ok(Step::More);
-    for (index, stepped) in steps.iter().enumerate() {
-        let step = match stepped {
-            Add(id, numbers, hints) => LineStep::Add {
-                id: *id,
-                lits: lits_of(rt, alloc, numbers)?,
-                hints: List::of(alloc, hints)?,
-            },
-            Delete(ids) => LineStep::Delete {
-                id: 5,
-                ids: List::of(alloc, ids)?,
-            },
-        };
-        last = checker.line(&Line {
-            line: index as u64 + 1,
-            step,
-        });
+    for (index, text) in proof.split('/').enumerate() {
+        last = checker.line(&line_of(rt, alloc, index as u64 + 1, text)?);
         if last.is_err() {
-            return Ok(last);
+            break;
         }
     }
     Ok(last)
 }
 
-/// The four clauses over two variables, which no model satisfies.
-const SQUARE: [&[i32]; 4] = [&[1, 2], &[1, -2], &[-1, 2], &[-1, -2]];
-
-/// The least id that leaps whatever came before, and the greatest that a line may have.
-const FAR: u64 = 9_223_372_036_854_775_806;
-
-const LAST: u64 = 9_223_372_036_854_775_807;
-
 #[test]
 fn proofs_are_judged_as_the_worked_ones(rt: HostRuntime) -> Result<(), Fail> {
     let alloc = rt.alloc();
-    let half = Add(5, &[1], &[1, 2]);
-    let rows: [(&[Stepped<'_>], Result<Step, CheckFault>); 20] = [
-        (&[half, Add(6, &[], &[5, 3, 4])], Ok(Step::Empty)),
-        (&[half], Ok(Step::More)),
+    for (proof, wanted) in [
+        ("5 1 0 1 2 0/6 0 5 3 4 0", Ok(Step::Empty)),
+        ("5 1 0 1 2 0", Ok(Step::More)),
         (
-            &[half, Delete(&[1]), Add(6, &[], &[5, 3, 1])],
+            "5 1 0 1 2 0/5 d 1 0/6 0 5 3 1 0",
             Err(CheckFault::UnknownHint(3, 3)),
         ),
         (
-            &[half, Delete(&[5]), Add(6, &[], &[5, 3, 4])],
+            "5 1 0 1 2 0/5 d 5 0/6 0 5 3 4 0",
             Err(CheckFault::UnknownHint(3, 1)),
         ),
-        (&[Add(5, &[], &[1])], Err(CheckFault::NotUnit(1, 1))),
-        (&[Add(5, &[1], &[1])], Err(CheckFault::NotFalsified(1))),
-        (&[Add(5, &[1], &[3])], Err(CheckFault::NotFalsified(1))),
-        (&[Add(4, &[1], &[1, 2])], Err(CheckFault::IdNotRising(1))),
-        (&[Add(4, &[1], &[9])], Err(CheckFault::IdNotRising(1))),
+        ("5 0 1 0", Err(CheckFault::NotUnit(1, 1))),
+        ("5 1 0 1 0", Err(CheckFault::NotFalsified(1))),
+        ("5 1 0 3 0", Err(CheckFault::NotFalsified(1))),
+        ("4 1 0 1 2 0", Err(CheckFault::IdNotRising(1))),
+        ("4 1 0 9 0", Err(CheckFault::IdNotRising(1))),
+        ("5 1 0 1 2 0/5 -1 0 3 4 0", Err(CheckFault::IdNotRising(2))),
+        ("5 d 9 0", Err(CheckFault::UnknownDelete(1, 1))),
+        ("5 d 1 1 0", Err(CheckFault::UnknownDelete(1, 2))),
+        ("5 d 0", Ok(Step::More)),
+        ("5 1 -1 0 99 0/6 0 5 0", Err(CheckFault::NotUnit(2, 1))),
+        ("5 1 0 1 2 77 0/6 0 5 3 4 0", Ok(Step::Empty)),
         (
-            &[half, Add(5, &[-1], &[3, 4])],
-            Err(CheckFault::IdNotRising(2)),
-        ),
-        (&[Delete(&[9])], Err(CheckFault::UnknownDelete(1, 1))),
-        (&[Delete(&[1, 1])], Err(CheckFault::UnknownDelete(1, 2))),
-        (&[Delete(&[])], Ok(Step::More)),
-        (
-            &[Add(5, &[1, -1], &[99]), Add(6, &[], &[5])],
-            Err(CheckFault::NotUnit(2, 1)),
-        ),
-        (
-            &[Add(5, &[1, 1, -1_000_000], &[1, 2, 77]), Add(6, &[1], &[5])],
+            "5 1 1 -1000000 0 1 2 0/6 1 0 5 0",
             Err(CheckFault::NotFalsified(2)),
         ),
         (
-            &[Add(FAR, &[1], &[1, 2]), Add(LAST, &[], &[FAR, 3, 4])],
+            "9223372036854775806 1 0 1 2 0/9223372036854775807 0 9223372036854775806 3 4 0",
             Ok(Step::Empty),
         ),
         (
-            &[
-                Add(FAR, &[1], &[1, 2]),
-                Delete(&[FAR]),
-                Add(LAST, &[], &[FAR, 3, 4]),
-            ],
+            "9223372036854775806 1 0 1 2 0/7 d 9223372036854775806 0/9223372036854775807 0 9223372036854775806 3 4 0",
             Err(CheckFault::UnknownHint(3, 1)),
         ),
         (
-            &[Add(LAST, &[1], &[1, 2]), Add(FAR, &[], &[LAST, 3, 4])],
+            "9223372036854775807 1 0 1 2 0/5 0 9223372036854775807 3 4 0",
             Err(CheckFault::IdNotRising(2)),
         ),
-        (
-            &[Add(9_999, &[1], &[1, 2]), Add(10_000, &[], &[9_999, 3, 4])],
-            Ok(Step::Empty),
-        ),
-        (
-            &[Add(70, &[1], &[1, 2]), Add(5_000, &[], &[70, 3, 4, 6])],
-            Ok(Step::Empty),
-        ),
-    ];
-    for (place, (steps, wanted)) in rows.iter().enumerate() {
-        let mut checker = checker_of(&rt, alloc, &SQUARE)?;
-        let found = answer(&rt, alloc, &mut checker, steps)?;
-        assert_eq!(rt; found, *wanted, "row {place}");
-        let again = answer(&rt, alloc, &mut checker, &[Delete(&[2])])?;
-        assert_eq!(rt; again.is_err(), wanted.is_err(), "row {place} once more");
+        ("9999 1 0 1 2 0/10000 0 9999 3 4 0", Ok(Step::Empty)),
+        ("70 1 0 1 2 0/5000 0 70 3 4 6 0", Ok(Step::Empty)),
+    ] {
+        let mut checker = square(&rt, alloc)?;
+        let found = answer(&rt, alloc, &mut checker, proof)?;
+        assert_eq!(rt; found, wanted, "{proof}");
+        let again = answer(&rt, alloc, &mut checker, "5 d 2 0")?;
         if wanted.is_err() {
-            assert_eq!(rt; again, *wanted, "row {place} once more");
+            assert_eq!(rt; again, wanted, "{proof}, and a deletion");
+        } else {
+            assert_eq!(rt; again, Ok(Step::More), "{proof}, and a deletion");
         }
     }
     law_fault_refuses();
@@ -150,19 +130,15 @@ fn proofs_are_judged_as_the_worked_ones(rt: HostRuntime) -> Result<(), Fail> {
 #[test]
 fn room_of_deleted_clauses_is_taken_back(rt: HostRuntime) -> Result<(), Fail> {
     let alloc = rt.alloc();
-    let mut checker = checker_of(&rt, alloc, &SQUARE)?;
-    let wide = [1, 3, -4, 5, 6, -7, 8, 9];
-    assert_eq!(rt;
-        answer(&rt, alloc, &mut checker, &[Add(FAR / 2, &[1], &[1, 2])])?,
-        Ok(Step::More)
-    );
-    for turn in 0..20_000 {
-        let id = FAR / 2 + 1 + turn;
-        let steps = [Add(id, &wide, &[FAR / 2]), Delete(&[id])];
-        assert_eq!(rt; answer(&rt, alloc, &mut checker, &steps)?, Ok(Step::More));
+    let mut checker = square(&rt, alloc)?;
+    let unit = answer(&rt, alloc, &mut checker, "10000000000 1 0 1 2 0")?;
+    assert_eq!(rt; unit, Ok(Step::More));
+    for id in 10_000_000_001..10_000_020_000_u64 {
+        let lines = format!(in alloc; "{id} 1 3 -4 5 6 -7 8 9 0 10000000000 0/5 d {id} 0")?;
+        assert_eq!(rt; answer(&rt, alloc, &mut checker, &lines)?, Ok(Step::More));
     }
-    let end = [Add(FAR, &[], &[FAR / 2, 3, 4])];
-    assert_eq!(rt; answer(&rt, alloc, &mut checker, &end)?, Ok(Step::Empty));
+    let end = answer(&rt, alloc, &mut checker, "10000030000 0 10000000000 3 4 0")?;
+    assert_eq!(rt; end, Ok(Step::Empty));
     Ok(())
 }
 
