@@ -1,5 +1,5 @@
 -- Which proofs check, by the judgement of their fronts.
-use Rattle.std.proofs.Common.{◌≡◌, Bool, true, false, cond, ◌&&◌, ◌||◌, List, [], ◌∷◌, ◌++◌, refl, ap, sym, ◌∙◌}
+use Rattle.std.proofs.Common.{◌≡◌, Bool, true, false, cond, ◌||◌, List, [], ◌∷◌, ◌++◌, refl, ap, sym, ◌∙◌}
 use Rattle.std.specs.Prelude.{fold, is_ok, IsOk, Result, Ok, Err}
 use Rattle.std.proofs.lemmas.Bool.{and_from, and_right, or_left, or_right}
 use Rattle.std.proofs.lemmas.List.Folds.{list_any-append}

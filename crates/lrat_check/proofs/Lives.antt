@@ -1,6 +1,6 @@
 -- The live clauses after additions and deletions, and the checker that has them.
-use Rattle.std.proofs.Common.{◌≡◌, ℕ, zero, suc, ◌+◌, ◌<◌, ◌≤◌, ◌==◌, Bool, true, false, cond, not, ◌||◌, List, [], ◌∷◌, ◌++◌, length, get_or, take, drop, refl, ap, sym, ◌∙◌, subst, arith, eqb-true, ne_eqb, eq-eqb}
-use Rattle.std.specs.Prelude.{Option, Some, None, find, filter, map, option_map, is_some, nat_le, IfSome, Result, Ok, Err}
+use Rattle.std.proofs.Common.{◌≡◌, ℕ, ◌+◌, ◌<◌, ◌≤◌, ◌==◌, Bool, true, false, cond, not, List, [], ◌∷◌, ◌++◌, length, get_or, take, drop, refl, ap, sym, ◌∙◌, arith, eqb-true, ne_eqb}
+use Rattle.std.specs.Prelude.{Option, Some, None, find, filter, map, option_map, is_some, Ok, Err}
 use Rattle.std.proofs.lemmas.Bool.{lt-leb}
 use Rattle.std.proofs.lemmas.Bool.Decides.{nat_tests}
 use Rattle.std.proofs.lemmas.List.{drop_more, drop_all, take_more, length-take-le}
@@ -10,7 +10,6 @@ use Rattle.lit_base.specs.Walk.{judgement_of}
 use Rattle.lit_base.specs.declared.proof.Judged.{Judged}
 use Rattle.lit_base.specs.declared.proof.Judged.TheVariants.{Follows}
 use Rattle.lit_base.specs.declared.proof.LineStep.TheVariants.{Add}
-use Rattle.lit_base.specs.declared.proof.ProofFault.{ProofFault}
 use Rattle.lit_base.specs.declared.proof.ProofFault.TheVariants as fault
 
 -- one clause more

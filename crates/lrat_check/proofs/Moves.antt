@@ -1,18 +1,15 @@
 -- Parts that are moved to a packed arena.
-use Rattle.std.proofs.Common.{◌≡◌, ℕ, ◌+◌, ◌<◌, ◌≤◌, ◌==◌, ◌≢◌, ◌⊎◌, inl, inr, nat_cmp, eqb-true, ne_eqb, set, Bool, true, false, cond, ◌&&◌, List, [], ◌∷◌, ◌++◌, length, refl, ap, sym, ◌∙◌, subst, arith, append_assoc, append-nil}
-use Rattle.std.specs.Prelude.{Option, Some, None, nat_le, slice_range}
+use Rattle.std.proofs.Common.{◌≡◌, ℕ, ◌+◌, ◌<◌, ◌≤◌, ◌==◌, ◌≢◌, ◌⊎◌, inl, inr, eqb-true, ne_eqb, set, Bool, true, false, cond, List, ◌++◌, length, refl, ap, sym, ◌∙◌, subst, arith}
+use Rattle.std.specs.Prelude.{Option, Some, None}
 use Rattle.std.proofs.lemmas.Bool.{eqb-false, cases_lt}
-use Rattle.std.proofs.lemmas.List.{length-append, nil_from_length}
-use Rattle.std.specs.Cmp.{unsigned_tied}
-use Rattle.std.specs.BTreeMap.{BTreeMap, btree_map_len, get, is_at}
-use Rattle.std.specs.Map.{lookup}
+use Rattle.std.proofs.lemmas.List.{length-append}
 use Rattle.lit_base.specs.Literal.{Literal}
 use Rattle.lrat_check.specs.declared.table.Span.{Span}
 use Rattle.lrat_check.specs.Table.{part_of, part_at, first_of}
 use Rattle.lrat_check.specs.Clauses.{lits_in, IsPart}
 use Rattle.lrat_check.specs.Packing.{IsMoved, Grows}
-use Rattle.lrat_check.proofs.Spans.{part_is, part_set, part_past}
-use Rattle.lrat_check.proofs.Arenas.{lits_stay, part_stays, lits_added, part_added, lits_of_part}
+use Rattle.lrat_check.proofs.Spans.{part_set, part_past}
+use Rattle.lrat_check.proofs.Arenas.{lits_stay, part_stays, lits_of_part}
 
 -- what was moved stays where the packed arena grows
 pub moved_stays : (literals packed after : List Literal) (old new : Option Span) → Grows packed after → IsMoved literals packed old new → IsMoved literals after old new

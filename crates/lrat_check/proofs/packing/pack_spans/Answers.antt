@@ -1,5 +1,4 @@
 use Rattle.std.proofs.Common.{◌≡◌, ◌<◌, ◌≤◌, ◌∙◌, sym, ap, subst, refl, length, length-set, arith, Some}
-use Rattle.std.specs.Prelude.{slice_get}
 use Rattle.std.proofs.lemmas.Option.{slice_get_read}
 use Rattle.lrat_check.specs.Table.{part_of, part_at}
 use Rattle.lrat_check.specs.Packing.{IsMoved}

@@ -1,4 +1,4 @@
-use Rattle.std.proofs.Common.{◌≤◌, ◌∙◌, get_or, length, refl, arith}
+use Rattle.std.proofs.Common.{◌≤◌, ◌∙◌, get_or, length}
 use Rattle.lit_base.specs.Judgement.{without_id}
 use Rattle.lrat_check.specs.Clauses.{lits_at}
 use Rattle.lrat_check.proofs.Lives.{found_less, deletes_one, deletes_none, deletes_all}

@@ -1,4 +1,4 @@
-use Rattle.std.proofs.Common.{◌≡◌, ◌∙◌, [], ◌∷◌, ◌++◌, List, ap, Ok, Err}
+use Rattle.std.proofs.Common.{◌∙◌, [], ◌∷◌, ◌++◌, ap}
 use Rattle.std.proofs.lemmas.Option.{IfSome_then}
 use Rattle.lit_base.specs.Judgement.{judged_line}
 use Rattle.lrat_check.specs.Faults.{proof_fault}

@@ -1,4 +1,4 @@
-use Rattle.std.proofs.Common.{◌≡◌, ◌∙◌, ap, nat_cmp}
+use Rattle.std.proofs.Common.{◌∙◌, ap, nat_cmp}
 use Rattle.std.specs.BTreeMap.{get, is_at}
 use Rattle.std.specs.Map.{lookup}
 use Rattle.lrat_check.specs.Table.{part_of, part_at, first_of, span_at}
