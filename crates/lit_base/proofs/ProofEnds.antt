@@ -9,7 +9,7 @@ use Rattle.lit_base.specs.declared.proof.Line.{Line}
 use Rattle.lit_base.specs.Judgement.{judged_line, judge, adds_empty, add_empty, up_to_empty, checks}
 
 -- a front without an empty lemma is kept whole
-up_to_empty-append : (lines more : List Line) → add_empty lines ≡ false → up_to_empty (lines ++ more) ≡ lines ++ up_to_empty more
+pub up_to_empty-append : (lines more : List Line) → add_empty lines ≡ false → up_to_empty (lines ++ more) ≡ lines ++ up_to_empty more
 up_to_empty-append [] more none = refl
 up_to_empty-append (line ∷ later) more none =
     let parts = or_parts (adds_empty line.step) (add_empty later) none in

@@ -1,6 +1,6 @@
 ghost use Rattle.std.specs.Prelude.{◌≡◌, ◌<◌, ◌≤◌, ◌+◌, ◌*◌, ℕ, ◌==◌, [], true, false, slice_index_or, if◌then◌else◌, vec_len, All, IfOk, OnOk, OnErr};
 ghost use Rattle.std.specs.List.{list_any};
-ghost use Rattle.lit_base.specs.Literal.{IsWithin};
+ghost use Rattle.lit_base.specs.Literal.{IsWithin, same};
 ghost use Rattle.lit_base.specs.Distinct.{distinct};
 ghost use Rattle.lit_base.specs.LitSet.{with_lit, index_of};
 
@@ -62,6 +62,15 @@ impl LitSet {
         self.lits.as_slice()
     }
 
+    /// Whether the literal is in the set.
+    pub fn contains(&self, lit: Lit) -> bool
+        requires { IsWithin self.now.variables lit }
+        ensures { result ≡ list_any (λ m. same m lit) self.now.lits }
+    {
+        let _ = &self.lits;
+        self.flags[lit.index()]
+    }
+
     /// Takes just the distinct literals of the list, in the order of first occurrence, in place of those that it has.
     ///
     /// After `NoMemory` it has some of them.
@@ -77,15 +86,16 @@ impl LitSet {
         Ok(())
     }
 
-    fn clear(&mut self)
+    /// Takes all literals out, in a step for each.
+    pub fn clear(&mut self)
         ensures { self.new ≡ record self.old { lits = [] } }
     {
         unset_flags(&mut self.flags, self.lits.as_slice());
         self.lits.clear();
     }
 
-    /// Puts the literal in at the end, where it isn't there.
-    fn insert(&mut self, lit: Lit) -> Result<(), NoMemory>
+    /// Puts the literal in at the end, where it isn't there. After `NoMemory` the set is unchanged.
+    pub fn insert(&mut self, lit: Lit) -> Result<(), NoMemory>
         requires { IsWithin self.old.variables lit }
         ensures ok { OnOk result (self.new ≡ record self.old { lits = with_lit self.old.lits lit }) }
         ensures err { OnErr result (self.new ≡ self.old) }
