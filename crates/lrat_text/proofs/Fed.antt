@@ -73,9 +73,9 @@ closed_says Deleted s at = ap (λ stage. with_line (Ok (Some (record { line = s.
 -- a line that ends with the text says what the LF behind it would lead to
 feed_says : (place : Place) (s : Scan) (text : List ℕ) → s.token ≡ capped (class_of text) → s.read ≤ 33554432 → is_ready place ≡ false
     → with_line (line_left place s text true []) no_steps ≡ last_by (step_feed place s)
-feed_says LineStart s text token few open = ap (λ r. with_line r no_steps) (at_line_end LineStart s text true few)
-feed_says Comment s text token few open = ap (λ r. with_line r no_steps) (at_line_end Comment s text true few)
-feed_says Tokens s text token few open =
+feed_says LineStart s text token few idle = ap (λ r. with_line r no_steps) (at_line_end LineStart s text true few)
+feed_says Comment s text token few idle = ap (λ r. with_line r no_steps) (at_line_end Comment s text true few)
+feed_says Tokens s text token few idle =
     ap (λ r. with_line r no_steps) (at_line_end Tokens s text true few)
     ∙ ap (λ (t : List ℕ). with_line (on_ok (judge_token s.progress t s.line) (λ p. line_end_at p.stage p s.line)) no_steps) (append-nil text)
     ∙ ap (λ r. with_line (on_ok r (λ p. line_end_at p.stage p s.line)) no_steps) (token_judged s.progress s.token text s.line token)
@@ -84,7 +84,7 @@ feed_says Tokens s text token few open =
     by : (r : Result Progress LineFault) → with_line (on_ok r (λ p. line_end_at p.stage p s.line)) no_steps ≡ last_by (on_ok (on_ok r (λ p. Ok (record s { token = Empty; progress = p }))) end_line)
     by (Ok p) = closed_says p.stage (record s { token = Empty; progress = p }) refl
     by (Err fault) = refl
-feed_says (Ready line) s text token few open = cc
+feed_says (Ready line) s text token few idle = cc
 
 -- what a whole text says whose bytes lead to these lines and this state
 pub said_whole : (bytes : List ℕ) (lines : List Line) (s : Scan) → read start bytes ≡ record { lines = lines; last = Ok s } → steps_in true (parts_of is_line_feed bytes) ≡ behind_lines lines (last_by (step s 10))
@@ -157,7 +157,7 @@ pub has_read_nothing : (reader : ReaderState) → reader.scan ≡ start → read
 unfolding HasRead
 has_read_nothing reader scan none sound = record {
   scanned = ap (λ (s : Scan). let o : Outcome = no_more s in o) (sym scan);
-  open = ap (λ (s : Scan). is_ready s.place) scan;
+  idle = ap (λ (s : Scan). is_ready s.place) scan;
   counted = none;
   few = omega arith;
   sound = sound;
@@ -177,20 +177,20 @@ pub fed_ok : (before after : ReaderState) (bytes : List ℕ) (lines : List Line)
     → after.read ≡ before.read + count → count ≤ length piece → after.read ≤ 1099511627776 → is_ready after.scan.place ≡ false
     → PieceTaken before.scan before.read piece after.scan count line → Takes after bytes lines piece count line
 unfolding HasRead
-fed_ok before after bytes lines piece count None read fault total within few open took = (
+fed_ok before after bytes lines piece count None read fault total within few idle took = (
   took.0,
   record {
     scanned = read_behind start bytes piece lines before.scan read.scanned ∙ ap (λ (o : Outcome). let u : Outcome = record { lines = lines ++ o.lines; last = o.last } in u) took.1
         ∙ ap (λ (ls : List Line). let u : Outcome = record { lines = ls; last = Ok after.scan } in u) (append-nil lines);
-    open = open;
+    idle = idle;
     counted = omega (arith, length-append bytes piece, read.counted, took.0);
     few = omega (arith, length-append bytes piece, read.counted, took.2);
     sound = fault ∙ read.sound;
   },
 )
-fed_ok before after bytes lines piece count (Some line) read fault total within few open took = record {
+fed_ok before after bytes lines piece count (Some line) read fault total within few idle took = record {
   scanned = read_behind start bytes (take count piece) lines before.scan read.scanned ∙ ap (λ (o : Outcome). let u : Outcome = record { lines = lines ++ o.lines; last = o.last } in u) took.1;
-  open = open;
+  idle = idle;
   counted = omega (arith, length-append bytes (take count piece), length-take count piece, read.counted);
   few = omega (arith, length-append bytes (take count piece), length-take count piece, read.counted);
   sound = fault ∙ read.sound;

@@ -118,9 +118,9 @@ closes ended Deleted s k at is = λ rest. is rest ∙ ap (λ stage. with_line (O
 -- LF is read
 feed_follows : (ended : Bool) (place : Place) (s : Scan) (text : List ℕ) (k : List ℕ → Steps) (b : ℕ) → s.token ≡ capped (class_of text) → s.read ≤ 33554432 → is_ready place ≡ false
     → Is ended place s text k → is_line_feed b ≡ true → Follows ended (step_feed place s) (λ rest. k (b ∷ rest))
-feed_follows ended LineStart s text k b token few open is feed = starts ended (s.line + 1) (λ rest. k (b ∷ rest)) (fed ended LineStart s text k b is feed few)
-feed_follows ended Comment s text k b token few open is feed = starts ended (s.line + 1) (λ rest. k (b ∷ rest)) (fed ended Comment s text k b is feed few)
-feed_follows ended Tokens s text k b token few open is feed =
+feed_follows ended LineStart s text k b token few idle is feed = starts ended (s.line + 1) (λ rest. k (b ∷ rest)) (fed ended LineStart s text k b is feed few)
+feed_follows ended Comment s text k b token few idle is feed = starts ended (s.line + 1) (λ rest. k (b ∷ rest)) (fed ended Comment s text k b is feed few)
+feed_follows ended Tokens s text k b token few idle is feed =
     by (judge_class s.token s.progress s.line) (λ rest.
     fed ended Tokens s text k b is feed few rest ∙ ap (λ r. with_line (on_ok r (λ p. line_end_at p.stage p s.line)) (text_from ended (s.line + 1) rest)) judged)
   where
@@ -131,7 +131,7 @@ feed_follows ended Tokens s text k b token few open is feed =
         → Follows ended (on_ok (on_ok r (λ p. Ok (record s { token = Empty; progress = p }))) end_line) (λ rest. k (b ∷ rest))
     by (Ok p) same = closes ended p.stage (record s { token = Empty; progress = p }) (λ rest. k (b ∷ rest)) refl same
     by (Err fault) same = same
-feed_follows ended (Ready line) s text k b token few open is feed = cc
+feed_follows ended (Ready line) s text k b token few idle is feed = cc
 
 -- a byte that leads to another place of the same line
 goes_on : (ended : Bool) (place next : Place) (s t : Scan) (text after : List ℕ) (k : List ℕ → Steps) (b : ℕ) → Is ended place s text k → is_line_feed b ≡ false
@@ -219,8 +219,8 @@ module _ (ended : Bool) (s : Scan) (text : List ℕ) (k : List ℕ → Steps) (b
 
   -- another byte
   byte_follows : (place : Place) → s.place ≡ place → is_ready place ≡ false → IsFresh place s.progress → Is ended place s text k → Follows ended (step_byte place (counted s) b) (λ rest. k (b ∷ rest))
-  byte_follows LineStart at open fresh is = at_start at fresh is
-  byte_follows Comment at open fresh is = here s.place at
+  byte_follows LineStart at idle fresh is = at_start at fresh is
+  byte_follows Comment at idle fresh is = here s.place at
     where
       here : (place : Place) → place ≡ Comment → Leads ended place (record (counted s) { place = place }) (λ rest. k (b ∷ rest))
       here LineStart at = cc
@@ -233,22 +233,22 @@ module _ (ended : Bool) (s : Scan) (text : List ℕ) (k : List ℕ → Steps) (b
       }
       here Tokens at = cc
       here (Ready line) at = cc
-  byte_follows Tokens at open fresh is = in_tokens at is
-  byte_follows (Ready line) at open fresh is = cc
+  byte_follows Tokens at idle fresh is = in_tokens at is
+  byte_follows (Ready line) at idle fresh is = cc
 
 -- one step follows
 step_by : (ended : Bool) (place : Place) (s : Scan) (k : List ℕ → Steps) (b : ℕ) → s.place ≡ place → is_ready place ≡ false → (c : Continues ended s k) → IsFresh place s.progress → Is ended place s c.text k
     → Follows ended (cond (is_line_feed b) (step_feed place s) (cond (leb 33554432 s.read) (Err (LineTooLong s.line)) (step_byte place (counted s) b))) (λ rest. k (b ∷ rest))
-step_by ended place s k b at open c fresh is = by (is_line_feed b) (leb 33554432 s.read) refl refl
+step_by ended place s k b at idle c fresh is = by (is_line_feed b) (leb 33554432 s.read) refl refl
   where
     by : (t u : Bool) → is_line_feed b ≡ t → leb 33554432 s.read ≡ u → Follows ended (cond t (step_feed place s) (cond u (Err (LineTooLong s.line)) (step_byte place (counted s) b))) (λ rest. k (b ∷ rest))
-    by true u feed full = feed_follows ended place s c.text k b c.token c.few open is feed
+    by true u feed full = feed_follows ended place s c.text k b c.token c.few idle is feed
     by false true feed full =
         fails ended place s c.text k b (LineTooLong s.line) is feed (λ whole xs. too_long place s c.text whole b xs (omega (arith, leb-true 33554432 s.read full, c.few)))
-    by false false feed full = byte_follows ended s c.text k b c.token feed (leb-false 33554432 s.read full) place at open fresh is
+    by false false feed full = byte_follows ended s c.text k b c.token feed (leb-false 33554432 s.read full) place at idle fresh is
 
 pub step_follows : (ended : Bool) (s : Scan) (k : List ℕ → Steps) (b : ℕ) → is_ready s.place ≡ false → Continues ended s k → Follows ended (step s b) (λ rest. k (b ∷ rest))
-step_follows ended s k b open c = step_by ended s.place s k b refl open c c.fresh c.same
+step_follows ended s k b idle c = step_by ended s.place s k b refl idle c c.fresh c.same
 
 -- lines, and then what others say
 abbrev pub behind_lines : List Line → Steps → Steps
@@ -268,9 +268,9 @@ one_more ended lines (Err fault) line k l is follows = λ rest. is rest ∙ ap (
 -- all steps follow
 pub read_follows : (ended : Bool) (s : Scan) (k : List ℕ → Steps) (bytes : List ℕ) → is_ready s.place ≡ false → Continues ended s k
     → FollowsTo ended (read s bytes).lines (read s bytes).last (λ rest. k (bytes ++ rest))
-read_follows ended s k [] open c = (k, open, c, λ rest. refl)
-read_follows ended s k (b ∷ bs) open c =
-    by (step s b) (λ t l open follows. read_follows ended t l bs open follows) (step_follows ended s k b open c)
+read_follows ended s k [] idle c = (k, idle, c, λ rest. refl)
+read_follows ended s k (b ∷ bs) idle c =
+    by (step s b) (λ t l idle follows. read_follows ended t l bs idle follows) (step_follows ended s k b idle c)
   where
     Goal : Outcome → Type 0
     Goal o = FollowsTo ended o.lines o.last (λ rest. k (b ∷ (bs ++ rest)))

@@ -5,3 +5,4 @@ pub mod Follow
 pub mod Outcomes
 pub mod Fed
 pub mod Numerals
+pub mod Running

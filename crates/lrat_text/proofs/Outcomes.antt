@@ -75,14 +75,14 @@ closed_line Added s = refl
 closed_line Deleted s = refl
 
 feed_line : (place : Place) (s : Scan) → is_ready place ≡ false → IsLine (s.line + 1) (step_feed place s)
-feed_line LineStart s open = refl
-feed_line Comment s open = refl
-feed_line Tokens s open = by (judge_class s.token s.progress s.line)
+feed_line LineStart s idle = refl
+feed_line Comment s idle = refl
+feed_line Tokens s idle = by (judge_class s.token s.progress s.line)
   where
     by : (r : Result Progress LineFault) → IsLine (s.line + 1) (on_ok (on_ok r (λ p. Ok (record s { token = Empty; progress = p }))) end_line)
     by (Ok p) = closed_line p.stage (record s { token = Empty; progress = p })
     by (Err fault) = tt
-feed_line (Ready line) s open = cc
+feed_line (Ready line) s idle = cc
 
 byte_line : (place : Place) (s : Scan) (b : ℕ) → IsLine s.line (step_byte place s b)
 byte_line LineStart s b = by (is_blank b) (b == 99)
@@ -102,10 +102,10 @@ byte_line (Ready line) s b = refl
 
 -- a step passes one line where its byte is LF, and else none
 step_line : (s : Scan) (b : ℕ) → is_ready s.place ≡ false → IsLine (cond (is_line_feed b) (s.line + 1) s.line) (step s b)
-step_line s b open = by (is_line_feed b) (leb 33554432 s.read)
+step_line s b idle = by (is_line_feed b) (leb 33554432 s.read)
   where
     by : (t u : Bool) → IsLine (cond t (s.line + 1) s.line) (cond t (step_feed s.place s) (cond u (Err (LineTooLong s.line)) (step_byte s.place (counted s) b)))
-    by true u = feed_line s.place s open
+    by true u = feed_line s.place s idle
     by false true = tt
     by false false = byte_line s.place (counted s) b
 
@@ -122,9 +122,9 @@ later_lines-cons b bs line = by (is_line_feed b) refl
 
 -- the line in which reading stands behind a text
 pub read_line : (s : Scan) (bytes : List ℕ) → is_ready s.place ≡ false → IsLine (s.line + later_lines bytes) (read s bytes).last
-read_line s [] open = omega arith
-read_line s (b ∷ bs) open =
-    by (step s b) (λ t free. read_line t bs free) (step_line s b open)
+read_line s [] idle = omega arith
+read_line s (b ∷ bs) idle =
+    by (step s b) (λ t free. read_line t bs free) (step_line s b idle)
   where
     Goal : Outcome → Type 0
     Goal o = IsLine (s.line + later_lines (b ∷ bs)) o.last
@@ -145,4 +145,4 @@ read_line s (b ∷ bs) open =
 
 -- that line, where reading led on
 pub line_here : (s : Scan) (bytes : List ℕ) (lines : List Line) (t : Scan) → is_ready s.place ≡ false → read s bytes ≡ record { lines = lines; last = Ok t } → t.line ≡ s.line + later_lines bytes
-line_here s bytes lines t open is = subst (λ (o : Outcome). IsLine (s.line + later_lines bytes) o.last) is (read_line s bytes open)
+line_here s bytes lines t idle is = subst (λ (o : Outcome). IsLine (s.line + later_lines bytes) o.last) is (read_line s bytes idle)

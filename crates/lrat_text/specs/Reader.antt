@@ -10,7 +10,7 @@ use Rattle.lrat_text.specs.Reading.{early_steps, proof_steps}
 -- the reader stands behind just these bytes, has handed out these lines, and has met no fault
 pub record Holds (reader : ReaderState) (bytes : List ℕ) (lines : List Line) : Type 0 where
   pub scanned : read start bytes ≡ record { lines = lines; last = Ok reader.scan }
-  pub open : is_ready reader.scan.place ≡ false
+  pub idle : is_ready reader.scan.place ≡ false
   pub counted : reader.read ≡ length bytes
   pub few : length bytes ≤ 1099511627776
   pub sound : reader.fault ≡ None

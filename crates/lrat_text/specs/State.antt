@@ -14,4 +14,4 @@ pub record ReaderState : Type 0 where
 pub record IsSound (scan : Scan) (read : ℕ) : Type 0 where
   pub few : read ≤ 1099511627776
   pub lines : scan.line ≤ read + 1
-  pub open : is_ready scan.place ≡ false
+  pub idle : is_ready scan.place ≡ false

@@ -100,12 +100,12 @@ fn read_on(
 ) -> Result<(usize, Option<Line>), LineFault>
     requires few { read.old ≤ 1099511627776 }
     requires lines { scan.old.line ≤ read.old + 1 }
-    requires open { is_ready scan.old.place ≡ false }
+    requires idle { is_ready scan.old.place ≡ false }
     ensures judged { PieceRead scan.old read.old piece.now scan.new read.new result }
     ensures some { 1 ≤ length piece.now → IfOk result (λ taken. 1 ≤ taken.0) }
     ensures few { read.new ≤ 1099511627776 }
     ensures lines { scan.new.line ≤ read.new + 1 }
-    ensures open { IfOk result (λ _. is_ready scan.new.place ≡ false) }
+    ensures idle { IfOk result (λ _. is_ready scan.new.place ≡ false) }
 {
     let room = (MOST_BYTES - *read).min(piece.len());
     match scan.run(&piece[..room]) {
@@ -129,7 +129,7 @@ fn end_scan(alloc: Global, scan: &mut Scan) -> Result<Option<Line>, LineFault>
     requires { scan.old.line < 2 ^ 63 }
     ensures judged { EndRead scan.old result }
     ensures lines { scan.new.line ≡ scan.old.line }
-    ensures open { IfOk result (λ _. is_ready scan.new.place ≡ false) }
+    ensures idle { IfOk result (λ _. is_ready scan.new.place ≡ false) }
 {
     let line = scan.line;
     let outcome = last_line(alloc, scan);
@@ -141,7 +141,7 @@ fn end_scan(alloc: Global, scan: &mut Scan) -> Result<Option<Line>, LineFault>
 fn last_line(alloc: Global, scan: &mut Scan) -> Result<Option<Line>, LineFault>
     requires { scan.old.line < 2 ^ 63 }
     ensures judged { EndRead scan.old result }
-    ensures open { IfOk result (λ _. is_ready scan.new.place ≡ false) }
+    ensures idle { IfOk result (λ _. is_ready scan.new.place ≡ false) }
 {
     scan.step(b'\n')?;
     Ok(scan.take_line(alloc)?)

@@ -82,7 +82,7 @@ impl Scan {
     /// Reads the bytes in turn, up to the first line that is ready, and answers how many.
     pub(crate) fn run(&mut self, bytes: &[u8]) -> Result<usize, LineFault>
         requires lines { self.old.line + length bytes.now < 2 ^ 63 }
-        requires open { is_ready self.old.place ≡ false }
+        requires idle { is_ready self.old.place ≡ false }
         ensures reads { Passes self.old bytes.now self.new result }
         ensures within { IfOk result (λ count. count ≤ length bytes.now) }
         ensures all { IfOk result (λ count. is_ready self.new.place ≡ false → count ≡ length bytes.now) }
