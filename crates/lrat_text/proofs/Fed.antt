@@ -98,13 +98,17 @@ said_whole bytes lines s is =
         ∙ ap (behind_lines lines) (c.same [] ∙ feed_says s.place s c.text c.token c.few follows.1)
 
 -- the bytes that may be read of a text and a piece behind it
-within_more : (bytes piece : List ℕ) → within (bytes ++ piece) ≡ within bytes ++ room_of (length (within bytes)) piece
+pub within_more : (bytes piece : List ℕ) → within (bytes ++ piece) ≡ within bytes ++ room_of (length (within bytes)) piece
 unfolding within
 within_more bytes piece = take_both 1099511627776 bytes piece
 
-within_all : (bytes : List ℕ) → length bytes ≤ 1099511627776 → within bytes ≡ bytes
+pub within_all : (bytes : List ℕ) → length bytes ≤ 1099511627776 → within bytes ≡ bytes
 unfolding within
 within_all bytes few = take_all 1099511627776 bytes few
+
+pub within_length : (bytes : List ℕ) → length (within bytes) ≡ min 1099511627776 (length bytes)
+unfolding within
+within_length bytes = length-take 1099511627776 bytes
 
 -- behind bytes of which there aren't too many
 within_room : (bytes piece : List ℕ) → length bytes ≤ 1099511627776 → within (bytes ++ piece) ≡ bytes ++ room_of (length bytes) piece

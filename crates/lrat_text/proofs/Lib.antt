@@ -6,3 +6,5 @@ pub mod Outcomes
 pub mod Fed
 pub mod Numerals
 pub mod Running
+pub mod Whole
+pub mod Written
