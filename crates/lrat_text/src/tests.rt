@@ -10,24 +10,24 @@ use std::test::Fail;
 const GRAINS: [usize; 4] = [1, 2, 3, 4096];
 
 /// Adds the line's numbers: its own, its id, and then literals, 0, hints, 0, or for a deletion -1, the ids, 0.
-fn push_line(numbers: &mut Vec<i64>, line: &Line) -> Result<(), AllocError> {
-    numbers.push(line.line as i64)?;
+fn push_line(numbers: &mut Vec<i128>, line: &Line) -> Result<(), AllocError> {
+    numbers.push(i128::from(line.line))?;
     match &line.step {
         LineStep::Add { id, lits, hints } => {
-            numbers.push(*id as i64)?;
+            numbers.push(i128::from(*id))?;
             for lit in lits.as_slice() {
-                numbers.push(i64::from(lit.number()))?;
+                numbers.push(i128::from(lit.number()))?;
             }
             numbers.push(0)?;
             for hint in hints.as_slice() {
-                numbers.push(*hint as i64)?;
+                numbers.push(i128::from(*hint))?;
             }
         }
         LineStep::Delete { id, ids } => {
-            numbers.push(*id as i64)?;
+            numbers.push(i128::from(*id))?;
             numbers.push(-1)?;
             for id in ids.as_slice() {
-                numbers.push(*id as i64)?;
+                numbers.push(i128::from(*id))?;
             }
         }
     }
@@ -39,7 +39,7 @@ fn push_line(numbers: &mut Vec<i64>, line: &Line) -> Result<(), AllocError> {
 fn feed_piece(
     reader: &mut LineReader,
     piece: &[u8],
-    numbers: &mut Vec<i64>,
+    numbers: &mut Vec<i128>,
 ) -> Result<Option<LineFault>, AllocError> {
     let mut at = 0;
     while at < piece.len() {
@@ -61,7 +61,7 @@ fn read(
     alloc: Global,
     text: &[u8],
     grain: usize,
-) -> Result<(Vec<i64>, Option<LineFault>), AllocError>
+) -> Result<(Vec<i128>, Option<LineFault>), AllocError>
     requires { 0 < grain }
 {
     let mut numbers = Vec::new(alloc);
