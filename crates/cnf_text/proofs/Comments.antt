@@ -13,8 +13,8 @@ use Rattle.cnf_text.specs.declared.stage.Stage.TheVariants.{Start, AfterMagic, A
 use Rattle.cnf_text.specs.declared.scan.Place.{Place}
 use Rattle.cnf_text.specs.declared.scan.Place.TheVariants.{LineStart, Comment, Tokens, Ended}
 use Rattle.cnf_text.specs.declared.scan.Scan.{Scan}
-use Rattle.cnf_text.specs.Faults.{on_ok}
-use Rattle.cnf_text.specs.Pieces.{is_line_feed, is_blank, mark_of, is_comment}
+use Rattle.lit_base.specs.Results.{on_ok}
+use Rattle.lit_base.specs.Lines.{is_line_feed, is_blank, mark_of, is_comment}
 use Rattle.cnf_text.specs.Class.{class_of}
 use Rattle.cnf_text.specs.Progress.{ProgressState}
 use Rattle.cnf_text.specs.Judge.{judge_literal, judge_end, judge_number, judge_at, judge_token, judge_line_end, finish_at, finish}

@@ -6,13 +6,14 @@ use Rattle.cnf_text.specs.declared.fault.CnfFault.TheVariants.{TooLong}
 use Rattle.cnf_text.specs.declared.scan.Place.{Place}
 use Rattle.cnf_text.specs.declared.scan.Place.TheVariants.{LineStart, Comment, Tokens, Ended}
 use Rattle.cnf_text.specs.declared.scan.Scan.{Scan}
-use Rattle.cnf_text.specs.Parts.{Parts, parts_of}
-use Rattle.cnf_text.specs.Faults.{on_ok}
-use Rattle.cnf_text.specs.Pieces.{is_line_feed, is_blank, mark_of, is_end, has_end, last_line}
+use Rattle.lit_base.specs.Parts.{Parts, parts_of}
+use Rattle.lit_base.specs.Results.{on_ok}
+use Rattle.lit_base.specs.Lines.{is_line_feed, is_blank, mark_of}
+use Rattle.cnf_text.specs.Pieces.{is_end, has_end, last_line}
 use Rattle.cnf_text.specs.Progress.{ProgressState}
 use Rattle.cnf_text.specs.Judge.{judge_token, judge_line_end}
 use Rattle.cnf_text.specs.Machine.{end_token, end_line, push_byte, step_at_start, step_in_comment, step_in_tokens, step_at, step, steps}
-use Rattle.cnf_text.proofs.Lexing.{parts_of_is, with_byte, solid_no_feed}
+use Rattle.lit_base.proofs.LineParts.{parts_of_is, with_byte, solid_no_feed}
 
 -- whether a line ends the input, and the line of the end
 pub record Ending : Type 0 where

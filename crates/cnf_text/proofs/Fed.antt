@@ -9,16 +9,19 @@ use Rattle.cnf_text.specs.declared.fault.Which.TheVariants.{Bytes}
 use Rattle.cnf_text.specs.declared.scan.Place.{Place}
 use Rattle.cnf_text.specs.declared.scan.Place.TheVariants.{LineStart, Comment, Tokens, Ended}
 use Rattle.cnf_text.specs.declared.scan.Scan.{Scan}
-use Rattle.cnf_text.specs.Parts.{parts_of}
-use Rattle.cnf_text.specs.Faults.{OnFault, on_ok, fault_of, Gives}
-use Rattle.cnf_text.specs.Pieces.{is_line_feed}
+use Rattle.lit_base.specs.Parts.{parts_of}
+use Rattle.lit_base.specs.Results.{on_ok, fault_of}
+use Rattle.lit_base.proofs.LineParts.{take_both}
+use Rattle.cnf_text.specs.Faults.{OnFault, Gives}
+use Rattle.lit_base.specs.Lines.{is_line_feed}
 use Rattle.cnf_text.specs.Progress.{ProgressState}
 use Rattle.cnf_text.specs.Judge.{judge, finish}
 use Rattle.cnf_text.specs.State.{ReaderState}
 use Rattle.cnf_text.specs.Machine.{start, step, step_at, steps, is_ended_at, ends_at, room_of, ReadsAll, ReadsTooMany, FaultOn}
 use Rattle.cnf_text.specs.Reading.{within, is_ended, end_line_of, judged, byte_fault, first_fault, early_fault, unless, formula_of}
 use Rattle.cnf_text.specs.Reader.{HasRead}
-use Rattle.cnf_text.proofs.Results.{on_ok-assoc, on_ok-same, OnFault-weaker, gives_same}
+use Rattle.lit_base.proofs.Results.{on_ok-assoc, on_ok-same}
+use Rattle.cnf_text.proofs.Results.{OnFault-weaker, gives_same}
 use Rattle.cnf_text.proofs.Follow.{Continues, Follows, steps_follow, judge_at_place}
 use Rattle.cnf_text.proofs.Endings.{Ending, ending_at, Stands, steps_stand}
 
@@ -100,13 +103,6 @@ ended_with_more bytes rest s is ended = ap (λ (e : Ending). e.ended) (standing 
     by Comment at = cc
     by Tokens at = cc
     by Ended at = refl
-
-take_both : (n : ℕ) (xs ys : List ℕ) → take n (xs ++ ys) ≡ take n xs ++ take (n - length (take n xs)) ys
-take_both zero [] ys = refl
-take_both zero (x ∷ xs) ys = refl
-take_both (suc n) [] ys = ap (λ m. take m ys) (let e : suc n ≡ suc n - 0 = omega arith in e)
-take_both (suc n) (x ∷ xs) ys =
-    ap (λ (zs : List ℕ). x ∷ zs) (take_both n xs ys ∙ ap (λ m. take n xs ++ take m ys) (let e : n - length (take n xs) ≡ suc n - length (x ∷ take n xs) = omega arith in e))
 
 -- the bytes that may be read of a text and a piece behind it
 pub within_more : (bytes piece : List ℕ) → within (bytes ++ piece) ≡ within bytes ++ room_of (length (within bytes)) piece

@@ -6,13 +6,15 @@ use Rattle.cnf_text.specs.declared.fault.CnfFault.TheVariants.{TooLong}
 use Rattle.cnf_text.specs.declared.scan.Place.{Place}
 use Rattle.cnf_text.specs.declared.scan.Place.TheVariants.{LineStart, Comment, Tokens, Ended}
 use Rattle.cnf_text.specs.declared.scan.Scan.{Scan}
-use Rattle.cnf_text.specs.Parts.{Parts, parts_of}
-use Rattle.cnf_text.specs.Faults.{on_ok}
-use Rattle.cnf_text.specs.Pieces.{is_line_feed, is_blank, pieces}
+use Rattle.lit_base.specs.Parts.{Parts, parts_of}
+use Rattle.lit_base.specs.Results.{on_ok}
+use Rattle.lit_base.specs.Lines.{is_line_feed, is_blank}
+use Rattle.cnf_text.specs.Pieces.{pieces}
 use Rattle.cnf_text.specs.Progress.{ProgressState}
 use Rattle.cnf_text.specs.Judge.{judge, judge_token, judge_line_end}
 use Rattle.cnf_text.specs.Machine.{end_token, end_line, push_byte, step_at_start, step_in_comment, step_in_tokens, step_at, step, steps}
-use Rattle.cnf_text.proofs.Lexing.{pieces_at, open_tokens, closing, is_more, parts_of_is, with_byte, blank_at_start, comment_at_start, end_at_start, token_at_start, blank_in_tokens, byte_in_tokens, long_token, line_feed_in_tokens, solid_no_feed}
+use Rattle.lit_base.proofs.LineParts.{parts_of_is, with_byte, solid_no_feed}
+use Rattle.cnf_text.proofs.Lexing.{pieces_at, open_tokens, closing, is_more, blank_at_start, comment_at_start, end_at_start, token_at_start, blank_in_tokens, byte_in_tokens, long_token, line_feed_in_tokens}
 
 -- what the lines of a text are judged as, where the reader stands here in front of them
 abbrev pub judge_at_place : Place → Scan → Parts → Result ProgressState CnfFault

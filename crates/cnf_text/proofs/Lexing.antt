@@ -4,35 +4,13 @@ use Rattle.std.proofs.lemmas.Bool.{lt-ltb, le-ltb, eqb-true, ne_eqb}
 use Rattle.cnf_text.specs.declared.fault.CnfFault.TheVariants.{TooLong}
 use Rattle.cnf_text.specs.declared.scan.Place.{Place}
 use Rattle.cnf_text.specs.declared.scan.Place.TheVariants.{LineStart, Comment, Tokens, Ended}
-use Rattle.cnf_text.specs.Parts.{Parts, parts_of}
-use Rattle.cnf_text.specs.Faults.{on_ok}
-use Rattle.cnf_text.specs.Pieces.{Piece, Token, LineEnd, is_line_feed, is_blank, mark_of, is_comment, is_end, tokens, line_tokens, pieces}
+use Rattle.lit_base.specs.Parts.{Parts, parts_of}
+use Rattle.lit_base.specs.Results.{on_ok}
+use Rattle.lit_base.specs.Lines.{is_line_feed, is_blank, mark_of, is_comment}
+use Rattle.cnf_text.specs.Pieces.{Piece, Token, LineEnd, is_end, tokens, line_tokens, pieces}
+use Rattle.lit_base.proofs.LineParts.{with_byte, parts_of_is, mark_blank, mark_other}
 use Rattle.cnf_text.specs.Progress.{ProgressState}
 use Rattle.cnf_text.specs.Judge.{judge, judge_bytes, judge_token, judge_line_end}
-
--- the parts of a byte and a text, by whether the byte cuts
-abbrev pub with_byte : Bool → ℕ → Parts → Parts
-with_byte true b parts = record { first = []; others = parts.first ∷ parts.others }
-with_byte false b parts = record { first = b ∷ parts.first; others = parts.others }
-
-parts_of-cons : (cuts : ℕ → Bool) (b : ℕ) (bs : List ℕ) → parts_of cuts (b ∷ bs) ≡ with_byte (cuts b) b (parts_of cuts bs)
-parts_of-cons cuts b bs = by (cuts b)
-  where
-    by : (t : Bool) → cond t (record { first = []; others = (parts_of cuts bs).first ∷ (parts_of cuts bs).others }) (record { first = b ∷ (parts_of cuts bs).first; others = (parts_of cuts bs).others }) ≡ with_byte t b (parts_of cuts bs)
-    by true = refl
-    by false = refl
-
-pub parts_of_is : (cuts : ℕ → Bool) (b : ℕ) (bs : List ℕ) (t : Bool) → cuts b ≡ t → parts_of cuts (b ∷ bs) ≡ with_byte t b (parts_of cuts bs)
-parts_of_is cuts b bs t is = parts_of-cons cuts b bs ∙ ap (λ u. with_byte u b (parts_of cuts bs)) is
-
--- a byte that is no blank is no LF
-pub solid_no_feed : (b : ℕ) → is_blank b ≡ false → is_line_feed b ≡ false
-solid_no_feed b solid = by (b == 32) (b == 10) refl solid
-  where
-    by : (t u : Bool) → (b == 10) ≡ u → (t || (u || ((b == 9) || (b == 13)))) ≡ false → (b == 10) ≡ false
-    by true u feed h = cc
-    by false true feed h = cc
-    by false false feed h = feed
 
 -- what stands behind a line
 abbrev pub closing : ℕ → List (List ℕ) → List Piece
@@ -63,12 +41,6 @@ pieces_at LineStart line token lines = pieces line lines.first lines.others
 pieces_at Comment line token lines = closing line lines.others
 pieces_at Tokens line token lines = open_tokens line (is_more lines.others) token (parts_of is_blank lines.first) ++ closing line lines.others
 pieces_at Ended line token lines = []
-
-mark_blank : (b : ℕ) (bytes : List ℕ) → is_blank b ≡ true → mark_of (b ∷ bytes) ≡ mark_of bytes
-mark_blank b bytes is = ap (λ t. cond t (mark_of bytes) (Some b)) is
-
-mark_other : (b : ℕ) (bytes : List ℕ) → is_blank b ≡ false → mark_of (b ∷ bytes) ≡ Some b
-mark_other b bytes is = ap (λ t. cond t (mark_of bytes) (Some b)) is
 
 -- an empty token more is judged as nothing
 empty_first : (p : ProgressState) (mark : Option ℕ) (line : ℕ) (whole : Bool) (parts : Parts) (behind : List Piece)

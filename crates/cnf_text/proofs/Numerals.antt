@@ -7,94 +7,24 @@ use Rattle.std.proofs.lemmas.Bool.{lt-leb, and_parts, eqb-true, ne_eqb}
 use Rattle.cnf_text.specs.declared.fault.CnfFault.{CnfFault}
 use Rattle.cnf_text.specs.declared.fault.CnfFault.TheVariants.{TooLong}
 use Rattle.cnf_text.specs.declared.class.Class.TheVariants.{Number, Other}
-use Rattle.cnf_text.specs.declared.numeral.Digits.{Digits}
-use Rattle.cnf_text.specs.declared.numeral.Numeral.{Numeral}
+use Rattle.lit_base.specs.declared.numeral.Numeral.{Numeral}
 use Rattle.cnf_text.specs.declared.stage.Stage.{Stage}
 use Rattle.cnf_text.specs.declared.stage.Stage.TheVariants.{Start, AfterMagic, AfterFormat, AfterVariables, AfterClauses, Body}
 use Rattle.cnf_text.specs.declared.scan.Place.{Place}
 use Rattle.cnf_text.specs.declared.scan.Place.TheVariants.{LineStart, Comment, Tokens, Ended}
 use Rattle.cnf_text.specs.declared.scan.Scan.{Scan}
-use Rattle.cnf_text.specs.Faults.{OnFault, on_ok}
-use Rattle.cnf_text.specs.Pieces.{is_line_feed, is_blank}
-use Rattle.cnf_text.specs.Class.{value_from, class_of}
-use Rattle.cnf_text.specs.Numeral.{IsLeading, IsSign, sign_bytes, IsAtFront}
+use Rattle.lit_base.specs.Results.{on_ok}
+use Rattle.cnf_text.specs.Faults.{OnFault}
+use Rattle.lit_base.specs.Lines.{is_line_feed, is_blank}
+use Rattle.lit_base.specs.Numeral.{value_from, sign_bytes}
+use Rattle.cnf_text.specs.Numeral.{IsShortAtFront}
+use Rattle.cnf_text.specs.Class.{class_of}
 use Rattle.cnf_text.specs.Progress.{ProgressState}
 use Rattle.cnf_text.specs.Judge.{judge_at, judge_token, judge_number, is_body}
 use Rattle.cnf_text.specs.Machine.{end_token, end_line, step, step_at, push_byte, step_blank, step_number, is_between, steps}
 use Rattle.cnf_text.proofs.Results.{OnFault-weaker}
-use Rattle.cnf_text.proofs.Numbers.{digit_range}
-use Rattle.cnf_text.proofs.Lexing.{solid_no_feed}
-
--- a list that isn't empty, by its first item
-pub record IsCons (xs : List ℕ) : Type 0 where
-  pub first : ℕ
-  pub others : List ℕ
-  pub is : xs ≡ first ∷ others
-
-pub cons_of : (xs : List ℕ) → 0 < length xs → IsCons xs
-cons_of [] some = absurd (omega arith)
-cons_of (x ∷ xs) some = record { first = x; others = xs; is = refl }
-
--- a front of a text that isn't all of it, and the byte behind it
-pub record IsSplit (count : ℕ) (bytes : List ℕ) : Type 0 where
-  pub first : ℕ
-  pub others : List ℕ
-  front : take count bytes ≡ first ∷ others
-  len : length (first ∷ others) ≡ count
-  whole : bytes ≡ (first ∷ others) ++ get_or bytes count 0 ∷ drop (count + 1) bytes
-
-split_at : (count : ℕ) (bytes : List ℕ) → 0 < count → count < length bytes → IsSplit count bytes
-split_at count bytes some less =
-    let cons = cons_of (take count bytes) (omega (arith, length-take count bytes)) in
-    record {
-      first = cons.first;
-      others = cons.others;
-      front = cons.is;
-      len = omega (arith, ap length cons.is, length-take count bytes);
-      whole = sym (take-append-drop count bytes) ∙ ap (λ (xs : List ℕ). take count bytes ++ xs) (drop_more bytes count 0 less) ∙ ap (λ (xs : List ℕ). xs ++ get_or bytes count 0 ∷ drop (count + 1) bytes) cons.is;
-    }
-
--- what the function finds is at the front
-pub at_front : (bytes : List ℕ) (sign : ℕ) (digits : Digits) → IsSign bytes sign → IsLeading digits (drop sign bytes) → 0 < digits.count → sign + digits.count < length bytes
-    → sign + digits.count ≤ 64 → is_blank (get_or bytes (sign + digits.count) 0) ≡ true
-    → IsAtFront (record { positive = sign == 0; value = digits.value; len = sign + digits.count; blank = get_or bytes (sign + digits.count) 0 }) bytes
-at_front bytes zero digits sign leading some less short blank =
-    let split = split_at digits.count bytes some (omega arith) in
-    let at : zero + digits.count ≡ digits.count = omega arith in
-    record {
-      digit = split.first;
-      digits = split.others;
-      rest = drop (digits.count + 1) bytes;
-      whole = split.whole ∙ ap (λ i. (split.first ∷ split.others) ++ get_or bytes i 0 ∷ drop (digits.count + 1) bytes) (sym at);
-      all = ap (list_all is_ascii_digit) (sym split.front) ∙ leading.all;
-      value = leading.value ∙ ap (value_from 0) split.front;
-      len = omega (arith, split.len);
-      short = short;
-      blank = blank;
-    }
-at_front bytes (suc n) digits sign leading some less short blank =
-    subst (λ t. IsAtFront (record { positive = t; value = digits.value; len = suc n + digits.count; blank = get_or bytes (suc n + digits.count) 0 }) bytes)
-    (sym (ne_eqb (suc n) 0 (λ e. omega arith))) (signed bytes n sign.0 sign.1.0 sign.1.1 leading less short blank)
-  where
-    signed : (bytes : List ℕ) (n : ℕ) → n ≡ 0 → (others : List ℕ) → bytes ≡ 45 ∷ others → IsLeading digits (drop (suc n) bytes) → suc n + digits.count < length bytes
-        → suc n + digits.count ≤ 64 → is_blank (get_or bytes (suc n + digits.count) 0) ≡ true
-        → IsAtFront (record { positive = false; value = digits.value; len = suc n + digits.count; blank = get_or bytes (suc n + digits.count) 0 }) bytes
-    signed bytes n one others minus leading less short blank =
-        let at : suc n + digits.count ≡ suc digits.count = omega arith in
-        let behind : drop (suc n) bytes ≡ others = ap (λ m. drop (suc m) bytes) one ∙ ap (λ (xs : List ℕ). drop (suc 0) xs) minus in
-        let byte : get_or bytes (suc n + digits.count) 0 ≡ get_or others digits.count 0 = ap (λ i. get_or bytes i 0) at ∙ ap (λ (xs : List ℕ). get_or xs (suc digits.count) 0) minus in
-        let split = split_at digits.count others some (omega (arith, ap length minus)) in
-        record {
-          digit = split.first;
-          digits = split.others;
-          rest = drop (digits.count + 1) others;
-          whole = minus ∙ ap (λ (xs : List ℕ). 45 ∷ xs) split.whole ∙ ap (λ b. 45 ∷ ((split.first ∷ split.others) ++ b ∷ drop (digits.count + 1) others)) (sym byte);
-          all = ap (list_all is_ascii_digit) (sym split.front) ∙ ap (λ (xs : List ℕ). list_all is_ascii_digit (take digits.count xs)) (sym behind) ∙ leading.all;
-          value = leading.value ∙ ap (λ (xs : List ℕ). value_from 0 (take digits.count xs)) behind ∙ ap (value_from 0) split.front;
-          len = omega (arith, split.len);
-          short = short;
-          blank = blank;
-        }
+use Rattle.lit_base.proofs.Numerals.{digit_range, digit_is_solid, AreSolid, digits_are_solid}
+use Rattle.lit_base.proofs.LineParts.{solid_no_feed, drop_behind}
 
 -- a byte that is no blank, and begins no comment and no end
 pub record IsPlain (b : ℕ) : Type 0 where
@@ -106,21 +36,10 @@ digit_is_plain : (d : ℕ) → is_ascii_digit d ≡ true → IsPlain d
 digit_is_plain d is =
     let range = digit_range d is in
     record {
-      solid = rw (ne_eqb d 32 (λ e. omega arith), ne_eqb d 10 (λ e. omega arith), ne_eqb d 9 (λ e. omega arith), ne_eqb d 13 (λ e. omega arith)) refl;
+      solid = digit_is_solid d is;
       no_comment = ne_eqb d 99 (λ e. omega arith);
       no_end = ne_eqb d 37 (λ e. omega arith);
     }
-
--- no byte is a blank
-abbrev pub AreSolid : List ℕ → Type 0
-AreSolid [] = Unit {0}
-AreSolid (b ∷ bs) = (is_blank b ≡ false) × AreSolid bs
-
-pub digits_are_solid : (ds : List ℕ) → list_all is_ascii_digit ds ≡ true → AreSolid ds
-digits_are_solid [] all = tt
-digits_are_solid (d ∷ ds) all =
-    let parts = and_parts (is_ascii_digit d) (list_all is_ascii_digit ds) all in
-    ((digit_is_plain d parts.0).solid, digits_are_solid ds parts.1)
 
 -- the reader in a line of tokens, with an open token
 abbrev pub in_token : ℕ → ProgressState → List ℕ → Scan
@@ -222,38 +141,30 @@ numeral_steps s positive d ds blank rest between body all short is =
     word true short = word_steps s d ds (blank ∷ rest) between (digit_is_plain d (and_parts (is_ascii_digit d) (list_all is_ascii_digit ds) all).0) (digits_are_solid (d ∷ ds) all).1 short
     word false short = word_steps s 45 (d ∷ ds) (blank ∷ rest) between (record { solid = refl; no_comment = refl; no_end = refl }) (digits_are_solid (d ∷ ds) all) short
 
--- what is left behind a numeral and its blank
-drop_behind : (xs : List ℕ) (b : ℕ) (rest : List ℕ) → drop (length xs + 1) (xs ++ b ∷ rest) ≡ rest
-drop_behind [] b rest = refl
-drop_behind (x ∷ xs) b rest = ap (λ n. drop n (x ∷ (xs ++ b ∷ rest))) same ∙ drop_behind xs b rest
-  where
-    same : length (x ∷ xs) + 1 ≡ suc (length xs + 1)
-    same = omega arith
-
 -- the steps over the number at the front of a text
-pub front_steps : (s : Scan) (numeral : Numeral) (bytes : List ℕ) → is_between s.place s.token ≡ true → is_body s.progress.stage ≡ true → IsAtFront numeral bytes
+pub front_steps : (s : Scan) (numeral : Numeral) (bytes : List ℕ) → is_between s.place s.token ≡ true → is_body s.progress.stage ≡ true → IsShortAtFront numeral bytes
     → steps s bytes ≡ on_ok (step_number s numeral.positive numeral.value numeral.blank) (λ t. steps t (drop (numeral.len + 1) bytes))
 front_steps s numeral bytes between body front =
-    let word : List ℕ = sign_bytes numeral.positive ++ front.digit ∷ front.digits in
-    let left : drop (numeral.len + 1) bytes ≡ front.rest =
-    ap (λ n. drop (n + 1) bytes) front.len ∙ ap (λ (xs : List ℕ). drop (length word + 1) xs) front.whole ∙ drop_behind word numeral.blank front.rest in
-    ap (steps s) front.whole
-    ∙ numeral_steps s numeral.positive front.digit front.digits numeral.blank front.rest between body front.all (omega (arith, front.len, front.short)) front.blank
-    ∙ ap (λ v. on_ok (step_number s numeral.positive v numeral.blank) (λ t. steps t front.rest)) (sym front.value)
+    let word : List ℕ = sign_bytes numeral.positive ++ front.front.digit ∷ front.front.digits in
+    let left : drop (numeral.len + 1) bytes ≡ front.front.rest =
+    ap (λ n. drop (n + 1) bytes) front.front.len ∙ ap (λ (xs : List ℕ). drop (length word + 1) xs) front.front.whole ∙ drop_behind word numeral.blank front.front.rest in
+    ap (steps s) front.front.whole
+    ∙ numeral_steps s numeral.positive front.front.digit front.front.digits numeral.blank front.front.rest between body front.front.all (omega (arith, front.front.len, front.short)) front.front.blank
+    ∙ ap (λ v. on_ok (step_number s numeral.positive v numeral.blank) (λ t. steps t front.front.rest)) (sym front.front.value)
     ∙ ap (λ (xs : List ℕ). on_ok (step_number s numeral.positive numeral.value numeral.blank) (λ t. steps t xs)) (sym left)
 
-pub front_length : (numeral : Numeral) (bytes : List ℕ) → IsAtFront numeral bytes → numeral.len + 1 ≤ length bytes
+pub front_length : (numeral : Numeral) (bytes : List ℕ) → IsShortAtFront numeral bytes → numeral.len + 1 ≤ length bytes
 front_length numeral bytes front =
-    omega (arith, front.len, ap length front.whole, length-append (sign_bytes numeral.positive ++ front.digit ∷ front.digits) (numeral.blank ∷ front.rest))
+    omega (arith, front.front.len, ap length front.front.whole, length-append (sign_bytes numeral.positive ++ front.front.digit ∷ front.front.digits) (numeral.blank ∷ front.front.rest))
 
 -- a fault at the number is a fault of the text
-pub front_fault : (s : Scan) (numeral : Numeral) (bytes : List ℕ) (fault : CnfFault) → is_between s.place s.token ≡ true → is_body s.progress.stage ≡ true → IsAtFront numeral bytes
+pub front_fault : (s : Scan) (numeral : Numeral) (bytes : List ℕ) (fault : CnfFault) → is_between s.place s.token ≡ true → is_body s.progress.stage ≡ true → IsShortAtFront numeral bytes
     → OnFault fault (step_number s numeral.positive numeral.value numeral.blank ≡ Err fault) → OnFault fault (steps s bytes ≡ Err fault)
 front_fault s numeral bytes fault between body front owes =
     OnFault-weaker fault (step_number s numeral.positive numeral.value numeral.blank ≡ Err fault) (steps s bytes ≡ Err fault)
     (λ is. front_steps s numeral bytes between body front ∙ ap (λ r. on_ok r (λ t. steps t (drop (numeral.len + 1) bytes))) is) owes
 
-pub front_read : (s t : Scan) (numeral : Numeral) (bytes : List ℕ) → is_between s.place s.token ≡ true → is_body s.progress.stage ≡ true → IsAtFront numeral bytes
+pub front_read : (s t : Scan) (numeral : Numeral) (bytes : List ℕ) → is_between s.place s.token ≡ true → is_body s.progress.stage ≡ true → IsShortAtFront numeral bytes
     → step_number s numeral.positive numeral.value numeral.blank ≡ Ok t → steps s bytes ≡ steps t (drop (numeral.len + 1) bytes)
 front_read s t numeral bytes between body front is =
     front_steps s numeral bytes between body front ∙ ap (λ r. on_ok r (λ u. steps u (drop (numeral.len + 1) bytes))) is

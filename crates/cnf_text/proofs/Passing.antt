@@ -7,8 +7,8 @@ use Rattle.cnf_text.specs.declared.fault.CnfFault.{CnfFault}
 use Rattle.cnf_text.specs.declared.scan.Place.{Place}
 use Rattle.cnf_text.specs.declared.scan.Place.TheVariants.{LineStart, Comment, Tokens, Ended}
 use Rattle.cnf_text.specs.declared.scan.Scan.{Scan}
-use Rattle.cnf_text.specs.Faults.{on_ok}
-use Rattle.cnf_text.specs.Pieces.{is_line_feed}
+use Rattle.lit_base.specs.Results.{on_ok}
+use Rattle.lit_base.specs.Lines.{is_line_feed}
 use Rattle.cnf_text.specs.Progress.{ProgressState}
 use Rattle.cnf_text.specs.Judge.{judge_line_end}
 use Rattle.cnf_text.specs.Machine.{end_line, step_at, steps, is_commented}

@@ -2,15 +2,8 @@
 use Rattle.std.proofs.Common.{◌≡◌, refl, ◌∙◌, Result, Ok, Err}
 use Rattle.cnf_text.specs.declared.fault.CnfFault.{CnfFault}
 use Rattle.cnf_text.specs.declared.fault.CnfFault.TheVariants.{NoHeader, BadHeader, BadNumber, VariableAbove, TooManyClauses, TooFewClauses, Unclosed, OverLimit, TooLong, NoMemory}
-use Rattle.cnf_text.specs.Faults.{OnFault, on_ok, Judges, Gives}
-
-pub on_ok-assoc : {A B C : Type 0} (r : Result A CnfFault) (f : A → Result B CnfFault) (g : B → Result C CnfFault) → on_ok (on_ok r f) g ≡ on_ok r (λ x. on_ok (f x) g)
-on_ok-assoc (Ok x) f g = refl
-on_ok-assoc (Err fault) f g = refl
-
-pub on_ok-same : {A B : Type 0} (r : Result A CnfFault) (f g : A → Result B CnfFault) → ((x : A) → f x ≡ g x) → on_ok r f ≡ on_ok r g
-on_ok-same (Ok x) f g same = same x
-on_ok-same (Err fault) f g same = refl
+use Rattle.lit_base.specs.Results.{on_ok}
+use Rattle.cnf_text.specs.Faults.{OnFault, Judges, Gives}
 
 -- what a fault owes follows from more
 pub OnFault-weaker : (fault : CnfFault) (P Q : Type 0) → (P → Q) → OnFault fault P → OnFault fault Q

@@ -5,7 +5,7 @@ use Rattle.cnf_text.specs.declared.fault.CnfFault.{CnfFault}
 use Rattle.cnf_text.specs.declared.fault.CnfFault.TheVariants.{OverLimit}
 use Rattle.cnf_text.specs.declared.fault.Which.TheVariants.{Bytes}
 use Rattle.cnf_text.specs.declared.scan.Scan.{Scan}
-use Rattle.cnf_text.specs.Faults.{on_ok}
+use Rattle.lit_base.specs.Results.{on_ok}
 use Rattle.cnf_text.specs.Machine.{start, steps, is_ended_at, room_of}
 use Rattle.cnf_text.specs.Reading.{within, is_ended, end_line_of, byte_fault, early_fault, formula_of}
 use Rattle.cnf_text.proofs.Fed.{no_fault, steps_append, ended_stays, ended_here, within_more, within_all, within_length, steps_more, early_err, early_ok, byte_some, formula_is, formula_early}

@@ -5,8 +5,6 @@ use Rattle.std.specs.Char.{is_ascii_digit}
 use Rattle.std.proofs.lemmas.Bool.{le-ltb, lt-leb, ne_eqb}
 use Rattle.std.proofs.lemmas.List.{length-map}
 use Rattle.std.proofs.lemmas.List.Elements.{recursion_from_All}
-use Rattle.std.proofs.lemmas.Str.Parse.{IsNumeralModel, numerals_by_fold}
-use Rattle.std.proofs.lemmas.Fmt.{digits_decimal, digits_value-decimal, length-decimal-le, decimal_nonempty}
 use Rattle.lit_base.specs.Literal.{Literal, IsWithin, literal_text}
 use Rattle.lit_base.specs.Distinct.{distinct}
 use Rattle.lit_base.specs.Cnf.{Cnf}
@@ -18,42 +16,21 @@ use Rattle.cnf_text.specs.declared.stage.Stage.TheVariants.{AfterFormat, AfterVa
 use Rattle.cnf_text.specs.declared.scan.Place.{Place}
 use Rattle.cnf_text.specs.declared.scan.Place.TheVariants.{LineStart, Tokens}
 use Rattle.cnf_text.specs.declared.scan.Scan.{Scan}
-use Rattle.cnf_text.specs.Faults.{on_ok}
-use Rattle.cnf_text.specs.Pieces.{is_blank}
-use Rattle.cnf_text.specs.Class.{value_from}
-use Rattle.cnf_text.specs.Numeral.{sign_bytes}
+use Rattle.lit_base.specs.Results.{on_ok}
+use Rattle.lit_base.specs.Lines.{is_blank}
+use Rattle.lit_base.specs.Numeral.{value_from, sign_bytes}
 use Rattle.cnf_text.specs.Progress.{ProgressState}
 use Rattle.cnf_text.specs.Judge.{nothing, judge_at, judge_token, judge_number, judge_literal}
 use Rattle.cnf_text.specs.Machine.{start, steps, is_between, step_blank, ends_at}
 use Rattle.cnf_text.specs.Reading.{formula_of}
 use Rattle.cnf_text.specs.Spelling.{clause_line, header_line, formula_text, literal_count, CanBeWritten}
 use Rattle.cnf_text.proofs.Fed.{within_all, formula_is}
-use Rattle.cnf_text.proofs.Numerals.{cons_of, AreSolid, digits_are_solid, in_token, pushes, blank_step, numeral_class, numeral_steps}
+use Rattle.lit_base.proofs.Numerals.{AreSolid, digits_are_solid, IsDecimal, decimal_is}
+use Rattle.cnf_text.proofs.Numerals.{in_token, pushes, blank_step, numeral_class, numeral_steps}
 
--- std's words on digits, at this crate's definitions
-own : IsNumeralModel (λ ds. list_all is_ascii_digit ds ≡ true) (value_from 0)
-own = numerals_by_fold _ (search rules) value_from (search rules)
-
--- a number in decimal, by its first digit
-record IsDecimal (n : ℕ) : Type 0 where
-  digit : ℕ
-  digits : List ℕ
-  is : decimal n ≡ digit ∷ digits
-  all : list_all is_ascii_digit (digit ∷ digits) ≡ true
-  value : value_from 0 (digit ∷ digits) ≡ n
-  short : length (digit ∷ digits) ≤ 7
-
-decimal_is : (n : ℕ) → n ≤ 4000000 → IsDecimal n
-decimal_is n small =
-    let cons = cons_of (decimal n) (decimal_nonempty n (omega arith)) in
-    record {
-      digit = cons.first;
-      digits = cons.others;
-      is = cons.is;
-      all = ap (list_all is_ascii_digit) (sym cons.is) ∙ digits_decimal own n (omega arith);
-      value = ap (value_from 0) (sym cons.is) ∙ digits_value-decimal own n (omega arith);
-      short = omega (arith, ap length cons.is, length-decimal-le 7 n (omega arith) (omega arith) (omega arith));
-    }
+-- a number of at most seven digits
+short_decimal : (n : ℕ) → n ≤ 4000000 → IsDecimal 7 n
+short_decimal n small = decimal_is 7 n (omega arith) (omega arith) (omega arith)
 
 -- the steps over a token and the blank behind it, in a line of tokens
 word_blank : (line : ℕ) (p : ProgressState) (word : List ℕ) (blank : ℕ) (rest : List ℕ) → AreSolid word → length word ≤ 64 → is_blank blank ≡ true
@@ -65,7 +42,7 @@ word_blank line p word blank rest solid short is =
 number_blank : (line : ℕ) (p : ProgressState) (n blank : ℕ) (rest : List ℕ) → n ≤ 4000000 → is_blank blank ≡ true
     → steps (in_token line p []) (decimal n ++ blank ∷ rest) ≡ on_ok (on_ok (judge_at p.stage p (Number true n) line) (λ q. step_blank (in_token line q []) blank)) (λ t. steps t rest)
 number_blank line p n blank rest small is =
-    let d = decimal_is n small in
+    let d = short_decimal n small in
     word_blank line p (decimal n) blank rest (subst AreSolid (sym d.is) (digits_are_solid (d.digit ∷ d.digits) d.all)) (omega (arith, ap length d.is, d.short)) is
     ∙ ap (λ r. on_ok (on_ok r (λ q. step_blank (in_token line q []) blank)) (λ t. steps t rest))
     (ap (λ (w : List ℕ). judge_token p w line) d.is ∙ ap (λ k. judge_at p.stage p k line) (numeral_class true d.digit d.digits d.all) ∙ ap (λ v. judge_at p.stage p (Number true v) line) d.value)
@@ -114,8 +91,8 @@ module _ (variables limit : ℕ) (few : variables ≤ 1000000) where
       ∙ ap (λ r. on_ok (on_ok r (λ q. step_blank (in_token line q []) 32)) (λ t. steps t rest))
       (ap (λ v. judge_number p l.positive v line) d.value ∙ literal l.positive ∙ judged)
     where
-      d : IsDecimal l.variable
-      d = decimal_is l.variable (omega arith)
+      d : IsDecimal 7 l.variable
+      d = short_decimal l.variable (omega arith)
 
       p : ProgressState
       p = body variables limit closed lits count
@@ -196,8 +173,8 @@ module _ (variables limit : ℕ) (few : variables ≤ 1000000) where
 literal_length : (variables : ℕ) (l : Literal) → variables ≤ 1000000 → IsWithin variables l → length (literal_text l) ≤ 8
 literal_length variables l few in_range = by l.positive
   where
-    d : IsDecimal l.variable
-    d = decimal_is l.variable (omega arith)
+    d : IsDecimal 7 l.variable
+    d = short_decimal l.variable (omega arith)
 
     by : (t : Bool) → length (cond t [] (45 ∷ []) ++ decimal l.variable) ≤ 8
     by true = omega (arith, ap length d.is, d.short)
@@ -221,8 +198,8 @@ lines_length variables (lits ∷ others) few in_range =
 
 header_length : (variables clauses : ℕ) → variables ≤ 1000000 → clauses ≤ 4000000 → length (header_line variables clauses) ≤ 22
 header_length variables clauses few count =
-    let d = decimal_is variables (omega arith) in
-    let e = decimal_is clauses count in
+    let d = short_decimal variables (omega arith) in
+    let e = short_decimal clauses count in
     omega (
       arith,
       length-append (codes "p cnf ") (decimal variables ++ (codes " " ++ (decimal clauses ++ codes "\n"))),

@@ -2,14 +2,10 @@
 use Rattle.std.specs.Prelude.{ℕ, ◌+◌, ◌-◌, ◌*◌, ◌==◌, min, Bool, true, false, List, [], ◌∷◌, codes, nat_eq, if◌then◌else◌}
 use Rattle.std.specs.List.{list_all}
 use Rattle.std.specs.Char.{is_ascii_digit}
+use Rattle.lit_base.specs.Numeral.{value_from}
 use Rattle.std.specs.Cmp.Lexicographic.{pointwise}
 use Rattle.cnf_text.specs.declared.class.Class.{Class}
 use Rattle.cnf_text.specs.declared.class.Class.TheVariants.{Magic, Format, Number, Other}
-
--- the value of digits that follow those of n
-abbrev pub value_from : ℕ → List ℕ → ℕ
-value_from n [] = n
-value_from n (d ∷ ds) = value_from (n * 10 + (d - 48)) ds
 
 -- a number of this sign, where the bytes are digits, at least one; leading zeros are accepted
 abbrev pub digits_class : Bool → List ℕ → Class

@@ -51,16 +51,6 @@ OnFault (OverLimit which line) P = P
 OnFault (TooLong line) P = P
 OnFault NoMemory P = Unit {0}
 
--- the first fault of two steps, or what the second makes of the first
-abbrev pub on_ok : {A B : Type 0} → Result A CnfFault → (A → Result B CnfFault) → Result B CnfFault
-on_ok (Ok value) next = next value
-on_ok (Err fault) next = Err fault
-
--- the fault of a result
-abbrev pub fault_of : {A : Type 0} → Result A CnfFault → Option CnfFault
-fault_of (Ok value) = None
-fault_of (Err fault) = Some fault
-
 -- the call leaves the state that was wanted, or answers the fault that was wanted
 abbrev pub Judges : {A S : Type 0} → Result A CnfFault → S → Result S CnfFault → Type 0
 Judges (Ok done) after wanted = wanted ≡ Ok after

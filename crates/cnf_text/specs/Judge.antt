@@ -9,7 +9,7 @@ use Rattle.cnf_text.specs.declared.class.Class.{Class}
 use Rattle.cnf_text.specs.declared.class.Class.TheVariants.{Magic, Format, Number, Other}
 use Rattle.cnf_text.specs.declared.stage.Stage.{Stage}
 use Rattle.cnf_text.specs.declared.stage.Stage.TheVariants.{Start, AfterMagic, AfterFormat, AfterVariables, AfterClauses, Body}
-use Rattle.cnf_text.specs.Faults.{on_ok}
+use Rattle.lit_base.specs.Results.{on_ok}
 use Rattle.cnf_text.specs.Progress.{ProgressState}
 use Rattle.cnf_text.specs.Class.{class_of}
 use Rattle.cnf_text.specs.Pieces.{Piece, Token, LineEnd}

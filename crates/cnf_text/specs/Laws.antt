@@ -5,7 +5,7 @@ use Rattle.lit_base.specs.Literal.{Literal}
 use Rattle.lit_base.specs.Distinct.{distinct}
 use Rattle.lit_base.specs.Cnf.{Cnf}
 use Rattle.cnf_text.specs.declared.fault.CnfFault.{CnfFault}
-use Rattle.cnf_text.specs.Pieces.{is_line_feed, mark_of, is_comment}
+use Rattle.lit_base.specs.Lines.{is_line_feed, mark_of, is_comment}
 use Rattle.cnf_text.specs.State.{ReaderState}
 use Rattle.cnf_text.specs.Reading.{formula_of, early_fault, is_ended, IsEnded}
 use Rattle.cnf_text.specs.Reader.{HasRead}

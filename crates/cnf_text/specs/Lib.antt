@@ -1,4 +1,3 @@
-pub mod Parts
 pub mod Pieces
 pub mod Class
 pub mod Numeral

@@ -7,8 +7,9 @@ use Rattle.lit_base.specs.Cnf.{Cnf}
 use Rattle.cnf_text.specs.declared.scan.Place.{Place}
 use Rattle.cnf_text.specs.declared.scan.Place.TheVariants.{LineStart, Comment, Tokens, Ended}
 use Rattle.cnf_text.specs.declared.scan.Scan.{Scan}
-use Rattle.cnf_text.specs.Faults.{OnFault, on_ok}
-use Rattle.cnf_text.specs.Pieces.{is_line_feed, is_blank}
+use Rattle.lit_base.specs.Results.{on_ok}
+use Rattle.cnf_text.specs.Faults.{OnFault}
+use Rattle.lit_base.specs.Lines.{is_line_feed, is_blank}
 use Rattle.cnf_text.specs.Judge.{nothing, judge_token, judge_line_end, judge_number, finish}
 
 -- nothing was read yet

@@ -4,9 +4,10 @@ use Rattle.lit_base.specs.Cnf.{Cnf}
 use Rattle.cnf_text.specs.declared.fault.CnfFault.{CnfFault}
 use Rattle.cnf_text.specs.declared.fault.CnfFault.TheVariants.{OverLimit}
 use Rattle.cnf_text.specs.declared.fault.Which.TheVariants.{Bytes}
-use Rattle.cnf_text.specs.Parts.{parts_of}
-use Rattle.cnf_text.specs.Faults.{on_ok, fault_of}
-use Rattle.cnf_text.specs.Pieces.{is_line_feed, pieces_in, has_end, last_line}
+use Rattle.lit_base.specs.Parts.{parts_of}
+use Rattle.lit_base.specs.Results.{on_ok, fault_of}
+use Rattle.lit_base.specs.Lines.{is_line_feed}
+use Rattle.cnf_text.specs.Pieces.{pieces_in, has_end, last_line}
 use Rattle.cnf_text.specs.Progress.{ProgressState}
 use Rattle.cnf_text.specs.Judge.{nothing, judge, finish}
 

@@ -1,7 +1,8 @@
 ghost use Rattle.std.specs.Prelude.{◌≡◌, ℕ, ◌≤◌, min, true};
 ghost use Rattle.std.specs.List.{list_all};
 ghost use Rattle.std.specs.Char.{is_ascii_digit};
-ghost use Rattle.cnf_text.specs.Class.{class_of, digits_class, value_from, capped};
+ghost use Rattle.lit_base.specs.Numeral.{value_from};
+ghost use Rattle.cnf_text.specs.Class.{class_of, digits_class, capped};
 
 /// Above this value no number is told from another: every limit of the format is lower.
 const MOST_VALUE: u64 = 100_000_000;

@@ -1,6 +1,6 @@
 ghost use Rattle.std.specs.Prelude.{◌≡◌};
 ghost use Rattle.std.specs.List.{position_or_len};
-ghost use Rattle.cnf_text.specs.Pieces.{is_line_feed};
+ghost use Rattle.lit_base.specs.Lines.{is_line_feed};
 
 use memchr::memchr;
 

@@ -4,9 +4,10 @@ ghost use Rattle.cnf_text.specs.Machine.{start, end_token, end_line, push_byte, 
 
 use crate::comment::comment_len;
 use crate::fault::CnfFault;
-use crate::numeral::{Numeral, is_blank, numeral_at_front};
+use crate::numeral::short_numeral;
 use crate::progress::Progress;
 use crate::token::{MOST_TOKEN_BYTES, Token};
+use lit_base::{Numeral, is_blank};
 use std::alloc::Global;
 
 /// Where in a line the next byte stands.
@@ -77,7 +78,7 @@ impl Scan {
         ensures some { IfOk result (λ count. 1 ≤ count) }
     {
         if self.is_between() && self.progress.is_body() {
-            if let Some(numeral) = numeral_at_front(bytes) {
+            if let Some(numeral) = short_numeral(bytes) {
                 self.step_number(numeral)?;
                 return Ok(numeral.len + 1);
             }
@@ -130,12 +131,13 @@ impl Scan {
 
     /// Reads a number that is a whole token, and the blank behind it.
     fn step_number(&mut self, numeral: Numeral) -> Result<(), CnfFault>
-        requires { self.old.line < 2 ^ 63 }
+        requires lines { self.old.line < 2 ^ 63 }
+        requires small { numeral.value < 100000000 }
         ensures judged { Judges result self.new (step_number self.old numeral.positive numeral.value numeral.blank) }
         ensures lines { self.new.line ≤ self.old.line + 1 }
     {
         self.progress
-            .take_number(numeral.positive, numeral.value, self.line)?;
+            .take_number(numeral.positive, numeral.value as u32, self.line)?;
         self.place = Place::Tokens;
         self.token.clear();
         if numeral.blank == b'\n' {

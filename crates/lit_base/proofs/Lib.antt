@@ -32,3 +32,6 @@ pub mod Touched
 pub mod HintReasons
 pub mod NameOrder
 pub mod RoundOrder
+pub mod Results
+pub mod LineParts
+pub mod Numerals

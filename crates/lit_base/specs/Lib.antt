@@ -7,6 +7,10 @@ pub mod Trail
 pub mod Backjump
 pub mod Rounds
 pub mod Text
+pub mod Parts
+pub mod Lines
+pub mod Numeral
+pub mod Results
 pub mod Laws
 pub mod Walk
 pub mod Judgement

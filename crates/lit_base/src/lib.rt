@@ -25,6 +25,7 @@ pub use lit_set::LitSet;
 pub use memory::NoMemory;
 pub use model::Model;
 pub use name::Name;
+pub use numeral::{Numeral, is_blank, numeral_at_front};
 pub use proof::{ClauseStatus, Judged, Line, LineStep, ProofFault};
 pub use text::Text;
 pub use trail::{Entry, Value};
@@ -39,6 +40,7 @@ mod lit_set;
 mod memory;
 mod model;
 mod name;
+mod numeral;
 mod proof;
 #[cfg(test)]
 mod tests;

@@ -81,6 +81,13 @@ impl<T: Drop> List<T> {
         Ok(())
     }
 
+    /// Drops the items, and keeps their room for others.
+    pub fn clear(&mut self)
+        ensures { self.new ≡ [] }
+    {
+        self.items.clear();
+    }
+
     /// Puts an item in the place of the one at `i`, counted from 0.
     pub fn set(&mut self, i: usize, item: T)
         requires { i < length self.old }

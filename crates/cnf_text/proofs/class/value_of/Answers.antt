@@ -1,5 +1,5 @@
 use Rattle.std.proofs.Common.{◌≡◌, ◌+◌, ◌*◌, min, drop, subst, sym, ap, ◌∙◌, arith}
-use Rattle.cnf_text.specs.Class.{value_from}
+use Rattle.lit_base.specs.Numeral.{value_from}
 use Rattle.cnf_text.proofs.Numbers.{capped_more}
 use Rattle.cnf_text.proofs.class.value_of.Goals as goal
 

@@ -1,5 +1,5 @@
 use Rattle.std.proofs.Common.{◌≡◌, ◌≤◌, min, drop}
-use Rattle.cnf_text.specs.Class.{value_from}
+use Rattle.lit_base.specs.Numeral.{value_from}
 use Rattle.cnf_text.proofs.class.value_of.Given as goal
 
 -- the value of the digits so far, capped

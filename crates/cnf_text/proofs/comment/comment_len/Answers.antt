@@ -2,7 +2,7 @@ use Rattle.std.proofs.Common.{◌≡◌, ℕ, Bool, true, false, List, length, r
 use Rattle.std.proofs.lemmas.List.Sums.{position_or_len_is}
 use Rattle.std.specs.List.{position_or_len}
 use Rattle.memchr.specs.Find.{IsFirstByte, is_byte}
-use Rattle.cnf_text.specs.Pieces.{is_line_feed}
+use Rattle.lit_base.specs.Lines.{is_line_feed}
 use Rattle.cnf_text.proofs.comment.comment_len.Goals as goal
 
 no_is_false : (b : Bool) → (b ≡ true → ⊥) → b ≡ false

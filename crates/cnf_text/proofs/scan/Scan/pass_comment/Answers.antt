@@ -2,8 +2,8 @@ use Rattle.std.proofs.Common.{◌≡◌, ◌+◌, ◌∙◌, ap, sym, not, drop,
 use Rattle.std.proofs.lemmas.List.Sums.{prefix_len-le-length}
 use Rattle.std.proofs.lemmas.Result.{err_from_is_err_and}
 use Rattle.std.specs.List.{position_or_len}
-use Rattle.cnf_text.specs.Faults.{on_ok}
-use Rattle.cnf_text.specs.Pieces.{is_line_feed}
+use Rattle.lit_base.specs.Results.{on_ok}
+use Rattle.lit_base.specs.Lines.{is_line_feed}
 use Rattle.cnf_text.specs.Machine.{end_line, steps}
 use Rattle.cnf_text.proofs.Results.{OnFault-weaker}
 use Rattle.cnf_text.proofs.Passing.{comment_passed, comment_ended, no_comment_behind}

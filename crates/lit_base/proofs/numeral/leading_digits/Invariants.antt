@@ -1,8 +1,8 @@
-use Rattle.std.proofs.Common.{◌≡◌, ◌≤◌, take, true}
+use Rattle.std.proofs.Common.{◌≡◌, ◌≤◌, ◌<◌, ◌*◌, take, true}
 use Rattle.std.specs.List.{list_all}
 use Rattle.std.specs.Char.{is_ascii_digit}
-use Rattle.cnf_text.specs.Class.{value_from}
-use Rattle.cnf_text.proofs.numeral.leading_digits.Given as goal
+use Rattle.lit_base.specs.Numeral.{value_from}
+use Rattle.lit_base.proofs.numeral.leading_digits.Given as goal
 
 -- the bytes so far are digits, and this is their value
 abbrev pub invariant-loop-byte : goal.invariant-loop-byte
@@ -10,5 +10,5 @@ invariant-loop-byte l = record {
   count : l.digits.count ≡ l.byte-index;
   all : list_all is_ascii_digit (take l.byte-index l.bytes) ≡ true;
   value : l.digits.value ≡ value_from 0 (take l.byte-index l.bytes);
-  small : l.digits.value ≤ 99999999;
+  small : l.digits.value < 10 * l.enough;
 }

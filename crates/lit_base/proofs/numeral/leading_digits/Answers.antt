@@ -1,8 +1,8 @@
 use Rattle.std.proofs.Common.{◌≡◌, ◌+◌, ◌-◌, ◌*◌, get_or, true, ◌&&◌, sym, ap, ◌∙◌, arith}
 use Rattle.std.specs.Char.{is_ascii_digit}
 use Rattle.std.proofs.lemmas.List.Folds.{list_all_more}
-use Rattle.cnf_text.proofs.Numbers.{digit_range, value_more}
-use Rattle.cnf_text.proofs.numeral.leading_digits.Goals as goal
+use Rattle.lit_base.proofs.Numerals.{digit_range, value_more}
+use Rattle.lit_base.proofs.numeral.leading_digits.Goals as goal
 
 -- one digit more
 pub loop-byte-preserved : goal.loop-byte-preserved

@@ -1,0 +1,10 @@
+pub mod Results
+pub mod Classes
+pub mod Content
+pub mod Follow
+pub mod Outcomes
+pub mod Fed
+pub mod Numerals
+pub mod Running
+pub mod Whole
+pub mod Written

@@ -1,0 +1,10 @@
+pub mod Class
+pub mod Faults
+pub mod Judge
+pub mod Reading
+pub mod Machine
+pub mod State
+pub mod Reader
+pub mod Written
+pub mod Examples
+pub mod Laws
