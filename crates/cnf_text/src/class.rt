@@ -4,6 +4,8 @@ ghost use Rattle.std.specs.Char.{is_ascii_digit};
 ghost use Rattle.lit_base.specs.Numeral.{value_from};
 ghost use Rattle.cnf_text.specs.Class.{class_of, digits_class, capped};
 
+use lit_base::is_digits;
+
 /// Above this value no number is told from another: every limit of the format is lower.
 const MOST_VALUE: u64 = 100_000_000;
 
@@ -47,12 +49,6 @@ fn digits_class(positive: bool, digits: &[u8]) -> Class
         positive,
         value: value_of(digits),
     }
-}
-
-fn is_digits(bytes: &[u8]) -> bool
-    ensures { result ≡ list_all is_ascii_digit bytes.now }
-{
-    bytes.iter().all(|byte| byte.is_ascii_digit())
 }
 
 /// The value of the digits, or a hundred million where it is greater.

@@ -1,10 +1,12 @@
 -- The log of a run of one core is what its stretch derived.
-use Rattle.std.proofs.Common.{◌≡◌, ◌+◌, List, [], ◌∷◌, ◌++◌, length, append-nil, sym, ◌∙◌, subst, arith}
-use Rattle.std.specs.Prelude.{IsOk}
+use Rattle.std.proofs.Common.{◌≡◌, ℕ, map, ap, refl, ◌+◌, List, [], ◌∷◌, ◌++◌, length, append-nil, sym, ◌∙◌, subst, arith}
+use Rattle.std.specs.Prelude.{IsOk, flat_map}
 use Rattle.lit_base.specs.Cnf.{Cnf, IsFormula}
 use Rattle.lit_base.specs.Rounds.{originals}
 use Rattle.lit_base.specs.Judgement.{judge, Checks}
-use Rattle.solo_core.specs.Log.{AreNumbered}
+use Rattle.lit_base.specs.Text.{log_line_text, lines_text}
+use Rattle.lit_base.specs.declared.name.Name.{Name}
+use Rattle.solo_core.specs.Log.{lines_of, AreNumbered}
 use Rattle.solo_core.specs.Soundness.{AreDerived, AreNamed, EndsEmpty}
 use Rattle.solo_core.specs.declared.lemma.Lemma.{Lemma}
 use Rattle.solo_core.specs.declared.sheet.End.TheVariants.{Unsat}
@@ -16,7 +18,7 @@ use Rattle.log_merge.specs.Numbering.{Numbering, number_of}
 use Rattle.log_merge.proofs.FollowOn.{numbers_originals, numbered_in_core, first_core}
 use Rattle.crew.specs.Era.{stretched}
 use Rattle.crew.specs.Run.{AreOfOneCore}
-use Rattle.crew.specs.Log.{all_joined, log_of, numbering_at, numbering_of_run, log_lines}
+use Rattle.crew.specs.Log.{all_joined, log_of, numbering_at, numbering_of_run, log_lines, log_text}
 use Rattle.crew.proofs.OneCore.{sole, sole_lemmas, run_parts}
 
 -- the numbering of its log
@@ -72,3 +74,17 @@ pub run_checks : (cnf : Cnf) (settings : Settings) → IsFormula cnf → AreOfOn
 run_checks cnf settings is are ended =
     log_checks cnf (number_of (numbering_of_run cnf settings)) (log_of cnf settings) (numbers_originals (numbering_of_run cnf settings))
     (run_numbered cnf settings is are) (run_derived cnf settings is are) (run_ends_empty cnf settings is are ended)
+
+-- the lines of numbered lemmas as text
+lines_are : (number : Name → ℕ) (line id : ℕ) (lemmas : List Lemma) → AreNumbered number id lemmas
+    → flat_map (λ lemma. log_line_text (number lemma.name) lemma.lits (map number lemma.hints)) lemmas ≡ lines_text (lines_of number line id lemmas)
+lines_are number line id [] numbered = refl
+lines_are number line id (lemma ∷ later) numbered =
+    ap (λ n. log_line_text n lemma.lits (map number lemma.hints)
+        ++ flat_map (λ other. log_line_text (number other.name) other.lits (map number other.hints)) later) numbered.0
+    ∙ ap (λ rest. log_line_text id lemma.lits (map number lemma.hints) ++ rest) (lines_are number (line + 1) (id + 1) later numbered.1)
+
+-- the text of the log is that of its lines
+pub run_text : (cnf : Cnf) (settings : Settings) → IsFormula cnf → AreOfOneCore settings → log_text cnf settings ≡ lines_text (log_lines cnf settings)
+run_text cnf settings is are =
+    lines_are (number_of (numbering_of_run cnf settings)) 1 (length cnf.clauses + 1) (log_of cnf settings) (run_numbered cnf settings is are)

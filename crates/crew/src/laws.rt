@@ -3,6 +3,7 @@
 ghost use Rattle.std.specs.Prelude.{◌≡◌, ◌<◌, ◌≤◌, ℕ, ◌+◌, ◌↔◌, Bool, true, false, IsOk, IsSome, IsNone, List, length, Some, option_map, slice_get};
 ghost use Rattle.std.specs.List.{AllByRecursion};
 ghost use Rattle.lit_base.specs.Cnf.{Cnf, IsFormula};
+ghost use Rattle.lit_base.specs.Text.{lines_text};
 ghost use Rattle.lit_base.specs.Truth.{Satisfies};
 ghost use Rattle.lit_base.specs.Judgement.{judge, Checks, HasNoModel};
 ghost use Rattle.solo_core.specs.Log.{AreNumbered};
@@ -14,7 +15,7 @@ ghost use Rattle.log_merge.specs.Numbering.{number_of};
 ghost use Rattle.crew.specs.declared.outcome.Verdict.TheVariants.{Sat, Unsat, Unknown};
 ghost use Rattle.crew.specs.Era.{is_answer, is_over};
 ghost use Rattle.crew.specs.Run.{mails_at, HasEra, last_era, last_ends, AreOfOneCore};
-ghost use Rattle.crew.specs.Log.{log_of, numbering_of_run, log_lines};
+ghost use Rattle.crew.specs.Log.{log_of, numbering_of_run, log_lines, log_text};
 ghost use Rattle.crew.specs.Outcome.{verdict_at, outcome_of};
 
 /// The last era is one of the run and ends it, and no other era does. There are no more eras than
@@ -30,12 +31,14 @@ pub fn law_run_ends()
 {}
 
 /// Whatever the verdict, the lemmas of the log have the numbers behind those of the originals, in their
-/// order and without a gap, and each line follows at its place.
+/// order and without a gap, and each line follows at its place; the text of the log is that of these lines.
 pub fn law_log_follows()
     ensures numbered { (cnf : Cnf) (settings : Settings) → IsFormula cnf → AreOfOneCore settings →
         AreNumbered (number_of (numbering_of_run cnf settings)) (length cnf.clauses + 1) (log_of cnf settings) }
     ensures in_order { (cnf : Cnf) (settings : Settings) → IsFormula cnf → AreOfOneCore settings →
         IsOk (judge cnf (log_lines cnf settings)) }
+    ensures text { (cnf : Cnf) (settings : Settings) → IsFormula cnf → AreOfOneCore settings →
+        log_text cnf settings ≡ lines_text (log_lines cnf settings) }
     ensures counted { (cnf : Cnf) (settings : Settings) → AreOfOneCore settings →
         (outcome_of cnf settings).lemmas ≡ length (log_of cnf settings) }
 {}

@@ -3,7 +3,7 @@ use Rattle.std.specs.Prelude.{◌≡◌, ◌↔◌, ℕ, Bool, List, [], ◌++�
 use Rattle.std.specs.List.{AllByRecursion}
 use Rattle.lit_base.specs.Cnf.{Cnf}
 use Rattle.lit_base.specs.Truth.{Satisfies}
-use Rattle.lit_base.specs.Text.{values_text}
+use Rattle.lit_base.specs.Text.{values_text, lines_text}
 use Rattle.lit_base.specs.Judgement.{Checks, HasNoModel}
 use Rattle.solo_core.specs.Soundness.{EndsEmpty}
 use Rattle.solo_core.specs.declared.sheet.End.TheVariants.{Spent}
@@ -12,7 +12,7 @@ use Rattle.crew.specs.declared.outcome.Verdict.{Verdict}
 use Rattle.crew.specs.declared.outcome.Verdict.TheVariants.{Sat, Unsat, Unknown}
 use Rattle.crew.specs.declared.outcome.Outcome.{Outcome}
 use Rattle.crew.specs.Run.{last_ends}
-use Rattle.crew.specs.Log.{log_of, log_lines}
+use Rattle.crew.specs.Log.{log_of, log_lines, log_text}
 use Rattle.crew.specs.Outcome.{outcome_of}
 
 -- the `s` line of a verdict (the answer format of the SAT competitions)
@@ -35,8 +35,10 @@ pub record IsModelOf (cnf : Cnf) (model : List Bool) : Type 0 where
   pub values : length model ≡ cnf.variables
   pub satisfied : Satisfies model cnf
 
--- the log is a proof that checks, its last line and no earlier one is the empty lemma, and no model satisfies the formula
+-- the text of the log is that of a proof that checks, its last line and no earlier one is the empty lemma, and no model
+-- satisfies the formula
 pub record IsRefuted (cnf : Cnf) (settings : Settings) : Type 0 where
+  pub text : log_text cnf settings ≡ lines_text (log_lines cnf settings)
   pub checked : Checks cnf (log_lines cnf settings)
   pub ends_empty : EndsEmpty (log_of cnf settings)
   pub no_model : HasNoModel cnf

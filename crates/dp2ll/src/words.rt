@@ -1,10 +1,8 @@
 ghost use Rattle.std.specs.Prelude.{◌≡◌, ◌≤◌, ◌&&◌, ◌||◌, map, string_bytes, bytes_eq, codes, option_map, IfSome, IfOk};
-ghost use Rattle.std.specs.List.{list_all};
-ghost use Rattle.std.specs.Char.{is_ascii_digit};
 ghost use Rattle.crew.specs.Run.{AreOfOneCore};
 ghost use Rattle.dp2ll.specs.Job.{job_of, solve_of, settings_of, is_number, number_of, number_or, number_under, is_file_word, is_option, are_options, values_under, once, IsInRange, ReadsWords};
 
-use lit_base::{NoMemory, Text};
+use lit_base::{NoMemory, Text, is_digits};
 use solo_core::Settings;
 use std::alloc::Global;
 
@@ -142,14 +140,7 @@ fn number_of(text: &str, low: u32, high: u32) -> Option<u32>
 fn is_number(text: &str) -> bool
     ensures { result ≡ is_number text.now }
 {
-    !text.is_empty() && text.len() <= DIGITS && are_digits(text.as_bytes())
-}
-
-/// Whether all bytes are decimal digits.
-fn are_digits(bytes: &[u8]) -> bool
-    ensures { result ≡ list_all is_ascii_digit bytes.now }
-{
-    bytes.iter().all(|byte| byte.is_ascii_digit())
+    !text.is_empty() && text.len() <= DIGITS && is_digits(text.as_bytes())
 }
 
 /// Whether words are options of `solve`, one after the other.

@@ -25,7 +25,7 @@ pub use lit_set::LitSet;
 pub use memory::NoMemory;
 pub use model::Model;
 pub use name::Name;
-pub use numeral::{Numeral, is_blank, numeral_at_front};
+pub use numeral::{Numeral, is_blank, is_digits, numeral_at_front};
 pub use proof::{ClauseStatus, Judged, Line, LineStep, ProofFault};
 pub use text::Text;
 pub use trail::{Entry, Value};

@@ -1,4 +1,6 @@
 ghost use Rattle.std.specs.Prelude.{◌≡◌, ◌≤◌, ◌+◌, ◌*◌, ◌<◌, ℕ, IfSome, length};
+ghost use Rattle.std.specs.List.{list_all};
+ghost use Rattle.std.specs.Char.{is_ascii_digit};
 ghost use Rattle.lit_base.specs.Lines.{is_blank};
 ghost use Rattle.lit_base.specs.Numeral.{IsLeading, IsSign, IsAtFront};
 
@@ -28,6 +30,13 @@ pub fn is_blank(byte: u8) -> bool
     ensures { result ≡ is_blank byte }
 {
     byte == b' ' || byte == b'\n' || byte == b'\t' || byte == b'\r'
+}
+
+/// Whether all bytes are decimal digits.
+pub fn is_digits(bytes: &[u8]) -> bool
+    ensures { result ≡ list_all is_ascii_digit bytes.now }
+{
+    bytes.iter().all(|byte| byte.is_ascii_digit())
 }
 
 /// The number that the text begins with, where a blank follows it: an optional `-` and digits.

@@ -9,6 +9,7 @@ returns c = λ cnf settings is one.
     backed_by cnf settings (models.exactly cnf settings one)
     (λ model found. record { values = models.values cnf settings model one found; satisfied = models.satisfied cnf settings model is one found })
     (λ unsat. record {
+      text = c.law_log_follows.ensures.text cnf settings is one;
       checked = refutes.checks cnf settings is one unsat;
       ends_empty = refutes.empty_last cnf settings is one unsat;
       no_model = refutes.no_model cnf settings is one unsat;
