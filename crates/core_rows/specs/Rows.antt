@@ -1,5 +1,5 @@
 -- The table of the settings by which the cores differ.
-use Rattle.std.specs.Prelude.{ℕ, ◌/◌, ◌%◌, ◌==◌, ◌<◌, ◌≢◌, Bool, ℤ, pos, neg_ℤ, List, [], ◌∷◌, slice_get, slice_index_or}
+use Rattle.std.specs.Prelude.{ℕ, ◌/◌, ◌%◌, ◌==◌, ◌<◌, ◌≤◌, ◌≢◌, Bool, ℤ, pos, neg_ℤ, List, [], ◌∷◌, slice_get, slice_index_or}
 use Rattle.core_rows.specs.declared.row.Row.{Row}
 
 -- the row of these settings
@@ -29,3 +29,13 @@ abbrev pub row_of : ℕ → Row
 row_of i =
     let phase = i % 2 == 1 in
     slice_index_or (rows_with phase) (i / 2) (row_with phase 100 1 256 0 (pos 0))
+
+-- the settings are in the ranges of the table
+pub record IsInRange (row : Row) : Type 0 where
+  pub some_unit : 25 ≤ row.unit
+  pub few_unit : row.unit ≤ 400
+  pub some_weight : 1 ≤ row.weight
+  pub few_weight : row.weight ≤ 5
+  pub some_halve : 50 ≤ row.halve
+  pub few_halve : row.halve ≤ 1024
+  pub few_noise : row.noise ≤ 16

@@ -1,6 +1,6 @@
 //! Laws of the definitions that contracts cite: functions that do nothing, whose contracts state them.
 ghost use Rattle.std.specs.Prelude.{◌≡◌, ◌≢◌, ℕ, ℤ, pos, ◌+ℤ◌, ◌≤ℤ◌, ◌<ℤ◌};
-ghost use Rattle.core_rows.specs.Rows.{DifferBelow};
+ghost use Rattle.core_rows.specs.Rows.{DifferBelow, IsInRange, row_of};
 ghost use Rattle.core_rows.specs.Share.{share_limit};
 
 use crate::table::RowTable;
@@ -12,6 +12,11 @@ pub fn law_rows_differ<const R: usize>(table: &RowTable<R>)
     // The read is for the checker alone, which then knows what always holds of a table.
     let _ = &table.rows;
 }
+
+/// Each row is in the ranges that `Row` gives.
+pub fn law_rows_are_in_range()
+    ensures { (i : ℕ) → IsInRange (row_of i) }
+{}
 
 /// The share limit is 0 where 0 was asked for. Else it is what was asked for with the row's share added, but 1 where
 /// that is lower and 64 where it is higher.

@@ -3,7 +3,7 @@
 #![tactic(auto)]
 
 pub use activity::{noise, start_activity};
-pub use laws::{law_rows_differ, law_share_limit};
+pub use laws::{law_rows_are_in_range, law_rows_differ, law_share_limit};
 pub use limit::share_of;
 pub use row::Row;
 pub use table::{RowTable, shipped};

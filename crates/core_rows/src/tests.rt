@@ -1,6 +1,6 @@
 ghost use Rattle.std.specs.Prelude.{◌≡◌};
 
-use crate::{Row, law_rows_differ, law_share_limit, noise, share_of, shipped, start_activity};
+use crate::{Row, law_rows_are_in_range, law_rows_differ, law_share_limit, noise, share_of, shipped, start_activity};
 
 /// A row of which only the noise and the share matter.
 fn row_with(noise: u32, share: i32) -> Row
@@ -67,5 +67,6 @@ fn rows_noise_and_limits_are_as_told(rt: HostRuntime) {
         assert_eq!(rt; share_of(&row_with(0, share), asked), told);
     }
     law_rows_differ(&table);
+    law_rows_are_in_range();
     law_share_limit();
 }

@@ -46,6 +46,7 @@ pub(crate) fn first_search(
         rounds,
         analyser,
         lemmas: List::new(alloc),
+        alloc,
     })
 }
 

@@ -12,16 +12,16 @@ use trail_book::Trail;
 
 impl Search {
     /// Moves the lemmas of the period out.
-    pub(crate) fn take_lemmas(&mut self, alloc: Global) -> List<Lemma>
+    pub(crate) fn take_lemmas(&mut self) -> List<Lemma>
         ensures lemmas { result ≡ self.old.state.lemmas }
         ensures state { self.new ≡ record self.old { state = record self.old.state { lemmas = [] } } }
     {
-        mem::replace(&mut self.lemmas, List::new(alloc))
+        mem::replace(&mut self.lemmas, List::new(self.alloc))
     }
 }
 
 /// The mail of a search whose stretch ended so; it posts no clause yet.
-pub(crate) fn mail_of(alloc: Global, search: &Search, end: End) -> Mail
+pub(crate) fn mail_of(search: &Search, end: End) -> Mail
     ensures { result ≡ mail_of search.now.frame (record { state = search.now.state; ended = end }) }
 {
     Mail {
@@ -30,17 +30,17 @@ pub(crate) fn mail_of(alloc: Global, search: &Search, end: End) -> Mail
         end,
         conflicts: search.period_conflicts,
         volume: search.pool.volume(),
-        posted: List::new(alloc),
+        posted: List::new(search.alloc),
     }
 }
 
 /// The model of a search whose stretch ended so: its trail where that was a model, else none.
-pub(crate) fn model_of(alloc: Global, search: &Search, end: End) -> Result<Option<Model>, NoMemory>
+pub(crate) fn model_of(search: &Search, end: End) -> Result<Option<Model>, NoMemory>
     ensures { IfOk result (λ model. model ≡ model_at search.now.frame search.now.state end) }
 {
     match end {
         End::Sat => {
-            let values = values_of(alloc, &search.trail, search.variables)?;
+            let values = values_of(search.alloc, &search.trail, search.variables)?;
             Ok(Some(Model::new(values)))
         }
         End::Unsat | End::Quota | End::Spent => Ok(None),

@@ -22,6 +22,7 @@ use clause_pool::Pool;
 use first_uip::Analyser;
 use lit_base::{List, Lit, NoMemory};
 use round_prop::{Found, Rounds};
+use std::alloc::Global;
 use std::marker::Model;
 use trail_book::Trail;
 
@@ -50,6 +51,8 @@ pub(crate) struct Search {
     pub(crate) analyser: Analyser,
     /// The lemmas of this period.
     pub(crate) lemmas: List<Lemma>,
+    /// Where new lists take their memory: kept, so that the calls of a period need nobody who has it.
+    pub(crate) alloc: Global,
 }
 
 impl Model for Search {

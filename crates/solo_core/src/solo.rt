@@ -26,8 +26,6 @@ pub struct Core {
     is_handed: bool,
     /// Whether memory was refused.
     is_broken: bool,
-    /// Where new lists take their memory: kept, so that the calls of a period need nobody who has it.
-    alloc: Global,
 }
 
 impl Model for Core {
@@ -68,7 +66,6 @@ impl Core {
             ended: None,
             is_handed: false,
             is_broken: false,
-            alloc,
         })
     }
 
@@ -129,9 +126,9 @@ impl Core {
         }
         self.is_broken = true;
         let end = self.ended.unwrap();
-        let model = model_of(self.alloc, &self.search, end)?;
-        let mail = mail_of(self.alloc, &self.search, end);
-        let lemmas = self.search.take_lemmas(self.alloc);
+        let model = model_of(&self.search, end)?;
+        let mail = mail_of(&self.search, end);
+        let lemmas = self.search.take_lemmas();
         self.is_handed = true;
         self.is_broken = false;
         Ok(Sheet {

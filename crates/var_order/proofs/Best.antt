@@ -81,6 +81,13 @@ unfolding BestUpTo
 best_up_to zero activities trail = λ w low high. absurd (omega arith)
 best_up_to (suc n) activities trail = with_next n activities trail (best_of n activities trail) (best_up_to n activities trail)
 
+-- the best of the variables up to n is one of them, and free
+pub best_of-some : (n : ℕ) (activities : List ℕ) (trail : List Entry) (v : ℕ) → best_of n activities trail ≡ Some v → (1 ≤ v) × (v ≤ n) × (is_free trail v ≡ true)
+unfolding BestUpTo
+best_of-some n activities trail v is =
+    let best : IsBestUpTo n activities trail v = subst (BestUpTo n activities trail) is (best_up_to n activities trail) in
+    (best.low, best.high, best.free)
+
 -- the variable that is picked is the best choice
 pub pick_is_best : (activities : List ℕ) (trail : List Entry) (v : ℕ) → pick_of activities trail ≡ Some v → IsBestChoice activities trail v
 unfolding BestUpTo Yields
@@ -98,11 +105,14 @@ full_from_none_free (suc n) trail taken =
     and_from (not (is_free trail (suc n))) (is_full n trail) (ap not (taken (suc n) (omega arith) (omega arith)))
     (full_from_none_free n trail (λ v low high. taken v low (omega arith)))
 
+-- where none of the variables up to n is the best, all of them stand on the trail
+pub best_of-none : (n : ℕ) (activities : List ℕ) (trail : List Entry) → best_of n activities trail ≡ None → is_full n trail ≡ true
+unfolding BestUpTo
+best_of-none n activities trail is = full_from_none_free n trail (subst (BestUpTo n activities trail) is (best_up_to n activities trail))
+
 -- where none is picked, the trail is full
 pub none_where_full : (activities : List ℕ) (trail : List Entry) → pick_of activities trail ≡ None → is_full (length activities) trail ≡ true
-unfolding BestUpTo
-none_where_full activities trail is =
-    full_from_none_free (length activities) trail (subst (BestUpTo (length activities) activities trail) is (best_up_to (length activities) activities trail))
+none_where_full activities trail is = best_of-none (length activities) activities trail is
 
 -- two best choices are one
 one_best : (activities : List ℕ) (trail : List Entry) (v w : ℕ) → IsBestChoice activities trail v → IsBestChoice activities trail w → w ≡ v

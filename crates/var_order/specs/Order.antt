@@ -24,13 +24,21 @@ activity_of s v = activity_at s.activities v
 abbrev pub is_present : OrderState → ℕ → Bool
 is_present s v = slice_index_or s.present (v - 1) false
 
+-- each variable that is free on the trail is in the order
+abbrev pub HasAllFree : OrderState → List Entry → Type 0
+HasAllFree s trail = (v : ℕ) → 1 ≤ v → v ≤ length s.activities → is_free trail v ≡ true → is_present s v ≡ true
+
 -- the order with one activity raised by this weight
 abbrev pub bumped : ℕ → ℕ → OrderState → OrderState
 bumped v weight s = record s { activities = slice_set s.activities (v - 1) (activity_of s v + weight) }
 
--- the order with all activities halved, rounded down
+-- activities, each halved and rounded down
+abbrev pub halves : List ℕ → List ℕ
+halves activities = map (λ a. a / 2) activities
+
+-- the order with all activities halved
 abbrev pub halved : OrderState → OrderState
-halved s = record s { activities = map (λ a. a / 2) s.activities }
+halved s = record s { activities = halves s.activities }
 
 -- the order with this variable in it
 abbrev pub put_back : ℕ → OrderState → OrderState

@@ -1,6 +1,6 @@
 ghost use Rattle.std.specs.Prelude.{◌≡◌, ℕ, ◌+◌, ◌≤◌, ◌<◌, ◌^◌, ◌/◌, ◌&&◌, ◌==◌, not, true, false, Option, Some, None, length, map, replicate, IfOk, IfSome, ◌≢◌};
 ghost use Rattle.lit_base.specs.Trail.{is_free};
-ghost use Rattle.var_order.specs.Order.{first_order, activity_at, activity_of, is_present, bumped, halved, put_back, beats, pick_of};
+ghost use Rattle.var_order.specs.Order.{first_order, activity_at, activity_of, is_present, HasAllFree, bumped, halves, halved, put_back, beats, pick_of};
 ghost use Rattle.var_order.specs.Laws.{IsChoice};
 
 use lit_base::{List, NoMemory};
@@ -75,7 +75,7 @@ impl Order {
     /// and takes it out; None where no variable is free.
     pub fn pick(&mut self, trail: &Trail) -> Option<u32>
         requires variables { length self.old.activities ≡ length trail.now.saved }
-        requires present { (v : ℕ) → 1 ≤ v → v ≤ length self.old.activities → is_free trail.now.entries v ≡ true → is_present self.old v ≡ true }
+        requires present { HasAllFree self.old trail.now.entries }
         ensures value { result ≡ pick_of self.old.activities trail.now.entries }
         ensures choice { IfSome result (λ v. IsChoice self.old.activities trail.now.entries v) }
         ensures activities { self.new.activities ≡ self.old.activities }
@@ -94,7 +94,8 @@ impl Order {
     pub fn put_back(&mut self, var: u32)
         requires some { 1 ≤ var }
         requires within { var ≤ length self.old.activities }
-        ensures { self.new ≡ put_back var self.old }
+        ensures order { self.new ≡ put_back var self.old }
+        ensures present { is_present self.new var ≡ true }
     {
         self.present[var as usize - 1] = true;
     }
@@ -109,7 +110,7 @@ fn all_present(alloc: Global, count: usize) -> Result<Vec<bool>, NoMemory>
 
 /// Halves each of the activities.
 fn halve_all(activities: &mut List<u64>)
-    ensures { activities.new ≡ map (λ a. a / 2) activities.old }
+    ensures { activities.new ≡ halves activities.old }
 {
     for place in 0..activities.len() {
         let half = *activities.get(place) / 2;
