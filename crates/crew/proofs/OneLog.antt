@@ -81,7 +81,7 @@ lines_are : (number : Name → ℕ) (line id : ℕ) (lemmas : List Lemma) → Ar
 lines_are number line id [] numbered = refl
 lines_are number line id (lemma ∷ later) numbered =
     ap (λ n. log_line_text n lemma.lits (map number lemma.hints)
-        ++ flat_map (λ other. log_line_text (number other.name) other.lits (map number other.hints)) later) numbered.0
+    ++ flat_map (λ other. log_line_text (number other.name) other.lits (map number other.hints)) later) numbered.0
     ∙ ap (λ rest. log_line_text id lemma.lits (map number lemma.hints) ++ rest) (lines_are number (line + 1) (id + 1) later numbered.1)
 
 -- the text of the log is that of its lines

@@ -122,7 +122,7 @@ solved_of run h =
 -- what holds of the `solve` of a run that ended like this
 on_ended : (run : Run) (how : Ending) (Q : List ℕ → Option (List ℕ) → Settings → Type 0) → EndsBy run how
     → ((file : List ℕ) (log : Option (List ℕ)) (settings : Settings) → Solves file log settings (desk_before run) (desk_after run) how
-        → Q file log settings)
+    → Q file log settings)
     → OnSolve run.job Q
 on_ended run how Q ends gives =
     on_solve run.job (λ file log settings. Solves file log settings (desk_before run) (desk_after run) how) Q gives ends.solves

@@ -71,11 +71,13 @@ fn serve<I: Inputs, O: Outputs>(
     ensures complaint { KeepsComplaint (O.told outputs.old) (O.told outputs.new) }
 {
     match read_words(alloc, words) {
-        Ok(Job::Solve {
-            file,
-            log,
-            settings,
-        }) => match solve(alloc, file.as_str(), &log, &settings, inputs, outputs) {
+        Ok(
+            Job::Solve {
+                file,
+                log,
+                settings,
+            },
+        ) => match solve(alloc, file.as_str(), &log, &settings, inputs, outputs) {
             Ok(verdict) => Ending::Answered(verdict),
             Err(ending) => ending,
         },

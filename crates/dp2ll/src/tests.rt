@@ -651,7 +651,14 @@ static FAULTY: [&[&str]; 26] = [
 static SAME: [&[&str]; 5] = [
     &["solve", "f", "--cores", "1", "--log", "g"],
     &["solve", "f", "--log", "g", "--limit", "1000000000"],
-    &["solve", "f", "--limit", "00000000000000000001", "--log", "g"],
+    &[
+        "solve",
+        "f",
+        "--limit",
+        "00000000000000000001",
+        "--log",
+        "g",
+    ],
     &["solve", "f", "--limit", "7", "--cores", "01", "--log", "g"],
     &["solve", "f", "--cores", "1", "--log", "g", "--limit", "3"],
 ];

@@ -100,13 +100,7 @@ fn settings_of(options: &[String]) -> Option<Settings>
 }
 
 /// The number under this name, from `low` to `high`, or `otherwise` where there is none.
-fn number_under(
-    options: &[String],
-    name: &str,
-    low: u32,
-    high: u32,
-    otherwise: u32,
-) -> Option<u32>
+fn number_under(options: &[String], name: &str, low: u32, high: u32, otherwise: u32) -> Option<u32>
     requires low { low ≤ otherwise }
     requires high { otherwise ≤ high }
     ensures number { result ≡ number_under name.now low high otherwise (map string_bytes options.now) }

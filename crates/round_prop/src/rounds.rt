@@ -87,6 +87,7 @@ impl Rounds {
             IsAttached self.old attached fresh seen → IsAttached self.new attached fresh seen) }
         ensures variables { self.new.variables ≡ self.old.variables }
     {
+        // a round looks at each clause, so nothing of the trail is taken in here
         let _ = trail;
         self.candidates.clear();
         self.candidates.reserve(self.rows.len() + 1)?;
@@ -107,6 +108,7 @@ impl Rounds {
             IsAttached self.new (clauses_without names.now attached) (names_without names.now fresh) seen }
         ensures variables { self.new.variables ≡ self.old.variables }
     {
+        // a row has its name, so no clause is read
         let _ = pool;
         self.rows.retain(|row| !is_among(names, row.name));
         self.fresh.retain(|name| !is_among(names, *name));
@@ -139,7 +141,7 @@ impl Rounds {
         ensures propagated { HasPropagated pool.now trail.old self.new trail.new result }
         ensures steps { steps.old ≤ steps.new }
     {
-        // the pool has its clauses in order, which its volume tells
+        // for the checker alone: that the pool's clauses stand in order and are found, which its volume tells
         let _ = pool.volume();
         let found = run_rounds(&self.rows, pool, trail, &mut self.candidates, steps);
         self.fresh.clear();
