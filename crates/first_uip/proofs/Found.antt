@@ -1,5 +1,5 @@
 -- The search through the marked variables, against the definition's marks.
-use Rattle.std.proofs.Common.{◌≡◌, ℕ, ◌==◌, ◌+◌, ◌≤◌, ◌<◌, Bool, true, false, ◌||◌, List, [], ◌∷◌, length, get_or, take, sum_by, refl, ap, ◌∙◌, sym, arith, inl, inr}
+use Rattle.std.proofs.Common.{◌≡◌, ℕ, ◌==◌, ◌+◌, ◌≤◌, ◌<◌, Bool, true, false, ◌||◌, List, [], ◌∷◌, length, get_or, take, count_by, sum_by, refl, ap, ◌∙◌, sym, arith, inl, inr}
 use Rattle.std.specs.Prelude.{Option, nat_lt}
 use Rattle.std.specs.List.{list_any}
 use Rattle.std.proofs.lemmas.Bool.{or_cases, or_left, or_right, eqb-true, cases_Bool}
@@ -11,10 +11,13 @@ use Rattle.lit_base.specs.declared.trail.Entry.{Entry}
 use Rattle.lit_base.specs.declared.name.Name.{Name}
 use Rattle.lit_base.specs.Fits.{IsFitting}
 use Rattle.lit_base.specs.Analysis.{Trace, is_marked, is_other_left, trace}
-use Rattle.first_uip.specs.Marks.{is_flagged, AreFlagsOf, GoesOn, IsCounted}
+use Rattle.trail_book.specs.TrailState.{place_of}
+use Rattle.first_uip.specs.Marks.{is_flagged, AreFlagsOf, AreListed, GoesOn, IsCounted, one_if}
 use Rattle.first_uip.specs.Places.{entry_of}
 use Rattle.first_uip.specs.Reasons.{root_variables}
+use Rattle.first_uip.specs.Walked.{AreFound}
 use Rattle.first_uip.specs.declared.marks.Marks.{Marks}
+use Rattle.first_uip.specs.declared.walk.Walk.{Walk}
 use Rattle.first_uip.proofs.Counted.{left_by_count}
 use Rattle.first_uip.proofs.Marking.{trace_closed, trace_least}
 use Rattle.first_uip.proofs.Listed.{listed_flag}
@@ -81,15 +84,23 @@ pub none_is_left : (level : ℕ) (rest : List Entry) (m : Marks) (t : Trace) →
 none_is_left level rest m t counted none are = sym (left_by_count level m.flags.items t.marked rest are) ∙ ap (λ n. nat_lt 0 n) (sym counted.of_level ∙ none)
 
 -- once all listed variables were met, the flags are the definition's marks
-pub found_all : (look : Name → Option (List Literal)) (level : ℕ) (rest : List Entry) (marked : List ℕ) (index : ℕ) (start flags : List Bool) (t : Trace) → IsFitting look rest →
-    is_other_left level t.marked rest ≡ false → length marked ≤ index → AreFlagsOf t.marked start → AreFlagsOf marked flags →
-    ((v : ℕ) → is_flagged flags v ≡ (is_reached look rest (take index marked) v || is_flagged start v)) →
-    ((v : ℕ) → is_flagged flags v ≡ true → is_marked (trace look level rest t).marked v ≡ true) → AreFlagsOf (trace look level rest t).marked flags
-found_all look level rest marked index start flags t fitting none all began listed are sound v =
-    same_answers (is_flagged flags v) (is_marked (trace look level rest t).marked v) (sound v)
-    (trace_least look level rest t (is_flagged flags) fitting none
-    (λ u met. are u ∙ or_right (is_reached look rest (take index marked) u) (is_flagged start u) (began u ∙ met))
+pub flags_found : (look : Name → Option (List Literal)) (level : ℕ) (rest : List Entry) (index : ℕ) (start now : Marks) (t : Trace) → IsFitting look rest → IsCounted level rest start → start.left ≡ 0 →
+    length now.marked.items ≤ index → AreFlagsOf t.marked start.flags.items → AreFlagsOf now.marked.items now.flags.items →
+    ((v : ℕ) → is_flagged now.flags.items v ≡ (is_reached look rest (take index now.marked.items) v || is_flagged start.flags.items v)) →
+    ((v : ℕ) → is_flagged now.flags.items v ≡ true → is_marked (trace look level rest t).marked v ≡ true) → AreFlagsOf (trace look level rest t).marked now.flags.items
+flags_found look level rest index start now t fitting counted none all began listed are sound v =
+    same_answers (is_flagged now.flags.items v) (is_marked (trace look level rest t).marked v) (sound v)
+    (trace_least look level rest t (is_flagged now.flags.items) fitting (none_is_left level rest start t counted none began)
+    (λ u met. are u ∙ or_right (is_reached look rest (take index now.marked.items) u) (is_flagged start.flags.items u) (began u ∙ met))
     (λ u w set_there there. are w
-    ∙ or_left (is_reached look rest (take index marked) w) (is_flagged start w)
-    (ap (λ ms. is_reached look rest ms w) (take_all index marked all)
-    ∙ any_marked (λ m. is_marked (root_variables look (entry_of rest m)) w) marked u (sym (listed u) ∙ set_there) there)) v)
+    ∙ or_left (is_reached look rest (take index now.marked.items) w) (is_flagged start.flags.items w)
+    (ap (λ ms. is_reached look rest ms w) (take_all index now.marked.items all)
+    ∙ any_marked (λ m. is_marked (root_variables look (entry_of rest m)) w) now.marked.items u (sym (listed u) ∙ set_there) there)) v)
+
+-- and the places are theirs
+pub places_found : (rest : List Entry) (index : ℕ) (walk : Walk) → AreListed walk.marks → length walk.marks.marked.items ≤ index →
+    ((p : ℕ) → count_by (λ at. at == p) walk.places.items ≡ sum_by (λ v. one_if (λ at. at == p) (place_of rest v)) (take index walk.marks.marked.items)) → AreFound rest walk
+places_found rest index walk listed all counts = record {
+  listed = listed;
+  places = λ p. counts p ∙ ap (sum_by (λ v. one_if (λ at. at == p) (place_of rest v))) (take_all index walk.marks.marked.items all);
+}

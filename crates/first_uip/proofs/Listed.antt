@@ -74,6 +74,10 @@ room_left m v len within unset listed =
     let more = count_more m.flags.items v (omega arith) unset in
     omega (arith, more, count_by-le-length (λ flag. flag) (set m.flags.items v true), length-set m.flags.items v true, listed.few, listed.room)
 
+-- and there are no more listed variables than flags
+pub listed_few : (m : Marks) → vec_len m.marked ≡ length m.marked.items → vec_len m.flags ≡ length m.flags.items → AreListed m → length m.marked.items ≤ vec_len m.flags
+listed_few m marked_len flags_len listed = omega (arith, listed.few, count_by-le-length (λ flag. flag) m.flags.items)
+
 -- a variable more with its flag
 pub listed_more : (m after : Marks) (v : ℕ) → v < length m.flags.items → is_flagged m.flags.items v ≡ false → after.flags.items ≡ set m.flags.items v true →
     after.marked.items ≡ m.marked.items ++ v ∷ [] → vec_len after.flags ≡ vec_len m.flags → vec_len after.marked ≡ vec_len m.marked + 1 → vec_capacity after.marked ≡ vec_capacity m.marked →

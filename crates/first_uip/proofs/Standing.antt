@@ -6,8 +6,8 @@ use Rattle.std.proofs.lemmas.Option.{same_Some, slice_get_within, slice_get-get_
 use Rattle.lit_base.specs.Literal.{Literal}
 use Rattle.lit_base.specs.declared.trail.Entry.{Entry}
 use Rattle.lit_base.specs.declared.name.Name.{Name}
-use Rattle.lit_base.specs.Fits.{IsFitting}
-use Rattle.trail_book.specs.TrailState.{place_of}
+use Rattle.lit_base.specs.Fits.{FitsClauses, IsFitting}
+use Rattle.trail_book.specs.TrailState.{TrailState, IsTrail, place_of}
 use Rattle.first_uip.specs.Places.{before, entry_of}
 use Rattle.first_uip.proofs.Marking.{fits_older}
 
@@ -65,5 +65,5 @@ fits_drop look zero trail fitting = fitting
 fits_drop look (suc n) [] fitting = fitting
 fits_drop look (suc n) (e ∷ older) fitting = fits_drop look n older (fits_older look e older fitting)
 
-pub fits_before : (look : Name → Option (List Literal)) (place : ℕ) (trail : List Entry) → IsFitting look trail → IsFitting look (before place trail)
-fits_before look place trail fitting = fits_drop look (length trail - place) trail fitting
+pub fits_before : (look : Name → Option (List Literal)) (place : ℕ) (t : TrailState) → IsTrail t → FitsClauses look t.entries → IsFitting look (before place t.entries)
+fits_before look place t trail fits = fits_drop look (length t.entries - place) t.entries (record { distinct = trail.distinct; fits = fits; leveled = trail.leveled })

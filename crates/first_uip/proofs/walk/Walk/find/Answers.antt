@@ -1,4 +1,4 @@
-use Rattle.std.proofs.Common.{◌≡◌, ◌==◌, ◌||◌, [], ◌+◌, cond, count_by, vec_len, ap, ◌∙◌, sym, arith}
+use Rattle.std.proofs.Common.{◌≡◌, ◌==◌, ◌||◌, ◌+◌, cond, count_by, vec_len, ap, ◌∙◌, sym, arith}
 use Rattle.std.specs.Prelude.{None, Some}
 use Rattle.std.proofs.lemmas.List.Sums.{sum_by_push}
 use Rattle.lit_base.specs.Named.{lits_at}

@@ -1,12 +1,11 @@
-use Rattle.std.proofs.Common.{◌≡◌, ◌==◌, ◌<◌, ◌≤◌, length, get_or, count_by, sum_by, vec_len, ap, ◌∙◌, sym, refl, arith, rules}
-use Rattle.std.proofs.lemmas.List.{take_all}
-use Rattle.std.proofs.lemmas.List.Sums.{count_by-le-length}
+use Rattle.std.proofs.Common.{◌≡◌, ◌==◌, ◌<◌, length, get_or, count_by, vec_len, ap, ◌∙◌, sym, refl, arith, rules}
 use Rattle.lit_base.specs.Named.{lits_at}
 use Rattle.lit_base.specs.Held.{clauses_of}
 use Rattle.first_uip.specs.Marks.{one_if}
 use Rattle.first_uip.specs.Places.{before}
 use Rattle.trail_book.specs.TrailState.{place_of}
-use Rattle.first_uip.proofs.Found.{reached_more, counts_more, sound_more, none_is_left, found_all}
+use Rattle.first_uip.proofs.Found.{reached_more, counts_more, sound_more, flags_found, places_found}
+use Rattle.first_uip.proofs.Listed.{listed_few}
 use Rattle.first_uip.proofs.Marking.{trace_keeps}
 use Rattle.first_uip.proofs.Gathered.{room_same, same_gathered}
 use Rattle.first_uip.proofs.Standing.{fits_before}
@@ -22,7 +21,7 @@ loop-index-preserved c =
     let was = c.loop-index.self.marks in
     let after = c.find.new.self.marks in
     let now = c.loop-index.invariant in
-    let fitting = fits_before look c.args.place entries (record { distinct = c.requires.trail.distinct; fits = c.requires.fits; leveled = c.requires.trail.leveled }) in
+    let fitting = fits_before look c.args.place c.args.trail.now c.requires.trail c.requires.fits in
     let var = c.index-var.result.now in
     let long : vec_len was.marked ≡ length was.marked.items = search rules in
     let below : index < length was.marked.items = omega (arith, long, c.if-index-len.false, c.len.ensures) in
@@ -54,45 +53,32 @@ loop-index-init c = record {
 -- in the end all were: where the list ends, and where each flag would have been passed
 pub returns-then-index-len-clause-marks : goal.returns-then-index-len-clause-marks
 returns-then-index-len-clause-marks c = λ t are.
+    let look = lits_at (clauses_of c.args.pool.now) in
     let now = c.loop-index.invariant in
-    let marked = c.loop-index.self.marks.marked in
-    let long : vec_len marked ≡ length marked.items = search rules in
-    let rest = before c.args.place c.args.trail.now.entries in
-    found_all (lits_at (clauses_of c.args.pool.now)) c.args.level rest marked.items c.loop-index.index c.args.self.now.marks.flags.items c.loop-index.self.marks.flags.items t
-    (fits_before (lits_at (clauses_of c.args.pool.now)) c.args.place c.args.trail.now.entries (record { distinct = c.requires.trail.distinct; fits = c.requires.fits; leveled = c.requires.trail.leveled }))
-    (none_is_left c.args.level rest c.args.self.now.marks t c.requires.counted c.requires.none_left are) (omega (arith, long, c.len.ensures)) are now.counted.listed.flags now.reached (now.sound t are)
+    let marks = c.loop-index.self.marks in
+    let long : vec_len marks.marked ≡ length marks.marked.items = search rules in
+    flags_found look c.args.level (before c.args.place c.args.trail.now.entries) c.loop-index.index c.args.self.now.marks marks t
+    (fits_before look c.args.place c.args.trail.now c.requires.trail c.requires.fits) c.requires.counted c.requires.none_left (omega (arith, long, c.len.ensures)) are now.counted.listed.flags
+    now.reached (now.sound t are)
 
 pub returns-then-index-len-clause-found : goal.returns-then-index-len-clause-found
 returns-then-index-len-clause-found c =
-    let now = c.loop-index.invariant in
     let marked = c.loop-index.self.marks.marked in
     let long : vec_len marked ≡ length marked.items = search rules in
-    let rest = before c.args.place c.args.trail.now.entries in
-    record {
-      listed = now.counted.listed;
-      places = λ p. now.places p ∙ ap (sum_by (λ v. one_if (λ at. at == p) (place_of rest v))) (take_all c.loop-index.index marked.items (omega (arith, long, c.len.ensures)));
-    }
+    places_found (before c.args.place c.args.trail.now.entries) c.loop-index.index c.loop-index.self c.loop-index.invariant.counted.listed (omega (arith, long, c.len.ensures))
+    c.loop-index.invariant.places
 
 pub returns-clause-marks : goal.returns-clause-marks
 returns-clause-marks c = λ t are.
+    let look = lits_at (clauses_of c.args.pool.now) in
     let now = c.loop-index.invariant in
-    let marked = c.loop-index.self.marks.marked in
-    let flags = c.loop-index.self.marks.flags in
-    let long : vec_len marked ≡ length marked.items = search rules in
-    let flags_long : vec_len flags ≡ length flags.items = search rules in
-    let rest = before c.args.place c.args.trail.now.entries in
-    found_all (lits_at (clauses_of c.args.pool.now)) c.args.level rest marked.items c.loop-index.index c.args.self.now.marks.flags.items flags.items t
-    (fits_before (lits_at (clauses_of c.args.pool.now)) c.args.place c.args.trail.now.entries (record { distinct = c.requires.trail.distinct; fits = c.requires.fits; leveled = c.requires.trail.leveled }))
-    (none_is_left c.args.level rest c.args.self.now.marks t c.requires.counted c.requires.none_left are)
-    (omega (arith, long, flags_long, now.flags, now.counted.listed.few, count_by-le-length (λ flag. flag) flags.items, c.len-index-end.ensures)) are now.counted.listed.flags now.reached (now.sound t are)
+    let all = listed_few c.loop-index.self.marks (search rules) (search rules) now.counted.listed in
+    flags_found look c.args.level (before c.args.place c.args.trail.now.entries) c.loop-index.index c.args.self.now.marks c.loop-index.self.marks t
+    (fits_before look c.args.place c.args.trail.now c.requires.trail c.requires.fits) c.requires.counted c.requires.none_left (omega (arith, all, now.flags, c.len-index-end.ensures)) are
+    now.counted.listed.flags now.reached (now.sound t are)
 
 pub returns-clause-found : goal.returns-clause-found
 returns-clause-found c =
     let now = c.loop-index.invariant in
-    let marked = c.loop-index.self.marks.marked in
-    let flags = c.loop-index.self.marks.flags in
-    let long : vec_len marked ≡ length marked.items = search rules in
-    let flags_long : vec_len flags ≡ length flags.items = search rules in
-    let rest = before c.args.place c.args.trail.now.entries in
-    let past : length marked.items ≤ c.loop-index.index = omega (arith, long, flags_long, now.flags, now.counted.listed.few, count_by-le-length (λ flag. flag) flags.items, c.len-index-end.ensures) in
-    record { listed = now.counted.listed; places = λ p. now.places p ∙ ap (sum_by (λ v. one_if (λ at. at == p) (place_of rest v))) (take_all c.loop-index.index marked.items past) }
+    let all = listed_few c.loop-index.self.marks (search rules) (search rules) now.counted.listed in
+    places_found (before c.args.place c.args.trail.now.entries) c.loop-index.index c.loop-index.self now.counted.listed (omega (arith, all, now.flags, c.len-index-end.ensures)) now.places

@@ -94,7 +94,7 @@ returns-clause-gathered c =
     let begun = c.cite.ensures.traces blank_trace (c.begin.ensures.begins (length c.args.trail.now.saved + 1) level c.requires.idle.marks) in
     let walked = c.walk_level-place.ensures.walked (cited look c.args.conflict blank_trace) begun in
     let here = walked.trace_here in
-    let fitting = fits_before look place entries (record { distinct = trail.distinct; fits = c.requires.fits; leveled = trail.leveled }) in
+    let fitting = fits_before look place c.args.trail.now trail c.requires.fits in
     let none = none_is_left level rest came.marks here c.walk_level-place.ensures.counted c.walk_level-place.ensures.none_left walked.stands.flagged in
     let settles = rest_settles look level rest here (is_flagged found.marks.flags.items) fitting none (c.find_older.ensures.marks here walked.stands.flagged) in
     let gathered = c.gather_older.ensures.gathered look (flagged found.marks.flags.items rest) here sorted.at
