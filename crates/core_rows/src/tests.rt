@@ -1,6 +1,9 @@
 ghost use Rattle.std.specs.Prelude.{◌≡◌};
 
-use crate::{Row, law_rows_are_in_range, law_rows_differ, law_share_limit, noise, share_of, shipped, start_activity};
+use crate::{
+    Row, law_rows_are_in_range, law_rows_differ, law_share_limit, noise, share_of, shipped,
+    start_activity,
+};
 
 /// A row of which only the noise and the share matter.
 fn row_with(noise: u32, share: i32) -> Row

@@ -215,7 +215,7 @@ pub record ReadsTooMany (before : Scan) (taken : ℕ) (piece : List ℕ) (line :
 abbrev pub FaultOn : Scan → ℕ → List ℕ → LineFault → Type 0
 FaultOn before taken piece fault =
     OnFault fault ((read before (room_of taken piece) ≡ record { lines = []; last = Err fault })
-        ⊎ ((line : ℕ) × (fault ≡ ProofTooLong line) × ReadsTooMany before taken piece line))
+    ⊎ ((line : ℕ) × (fault ≡ ProofTooLong line) × ReadsTooMany before taken piece line))
 
 -- what reading on with a piece leaves and answers behind `taken` bytes, where no line is ready
 abbrev pub PieceRead : Scan → ℕ → List ℕ → Scan → ℕ → Result (ℕ × Option Line) LineFault → Type 0

@@ -107,7 +107,10 @@ fn lines_are_read(rt: HostRuntime) -> Result<(), Fail> {
             "9223372036854775807 d 00000000000000000000000000000000012 0\n",
             [1, 9_223_372_036_854_775_807, -1, 12, 0].as_slice(),
         ),
-        ("5 1 1 -1 0 1 1 0\n", [1, 5, 1, 1, -1, 0, 1, 1, 0].as_slice()),
+        (
+            "5 1 1 -1 0 1 1 0\n",
+            [1, 5, 1, 1, -1, 0, 1, 1, 0].as_slice(),
+        ),
     ];
     for (text, want) in cases {
         for grain in GRAINS {
@@ -194,7 +197,10 @@ fn a_token_is_judged_behind_its_last_byte(rt: HostRuntime) -> Result<(), Fail> {
     let (taken, line) = reader.feed(b"5 0 -1".as_slice())?;
     assert_eq!(rt; (taken, line.is_some()), (6, false));
     assert_eq!(rt; reader.feed(b"x".as_slice()).is_ok(), true);
-    assert_eq!(rt; reader.feed(b" ".as_slice()).err(), Some(LineFault::BadToken(1)));
+    assert_eq!(rt;
+        reader.feed(b" ".as_slice()).err(),
+        Some(LineFault::BadToken(1))
+    );
     Ok(())
 }
 

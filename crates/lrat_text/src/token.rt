@@ -44,7 +44,10 @@ impl Token {
             Token::Empty => true,
             Token::Deletion => false,
             Token::Minus => false,
-            Token::Number { positive: _, value: _ } => false,
+            Token::Number {
+                positive: _,
+                value: _,
+            } => false,
             Token::Other => false,
         }
     }
