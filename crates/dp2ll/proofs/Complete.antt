@@ -14,7 +14,7 @@ use Rattle.dp2ll.specs.declared.ending.ReadStop.TheVariants as reading
 use Rattle.dp2ll.specs.declared.ending.WriteStop.{WriteStop}
 use Rattle.dp2ll.specs.declared.ending.WriteStop.TheVariants as writing
 use Rattle.dp2ll.specs.declared.ending.Ending.{Ending}
-use Rattle.dp2ll.specs.declared.ending.Ending.TheVariants.{Answered, Usage, Unread, Unwritten, NoMemory}
+use Rattle.dp2ll.specs.declared.ending.Ending.TheVariants.{Answered, Judged, Usage, Unread, Unjudged, Unwritten, NoMemory}
 use Rattle.dp2ll.specs.Ending.{read_status, write_status, status_of, complaint_of}
 use Rattle.dp2ll.specs.Outcome.{answer_text}
 use Rattle.dp2ll.specs.Logging.{LogTold, LogsFault}
@@ -63,9 +63,11 @@ solve_answers : KnowsReading → (run : Run) (file bytes : List ℕ) (log : Opti
 solve_answers laws run file bytes log settings (Answered verdict) status told calm tells cause =
     rw (read_told laws.ends bytes (run.inputs_before.held Formula file) (run.inputs_after.at Formula).left cause.cnf told cause.read)
     (λ fine. inl (record { status = rw cause.answered.outcome status; texts = cause.answered.texts }))
+solve_answers laws run file bytes log settings (Judged finding) status told calm tells cause = absurd cause
 solve_answers laws run file bytes log settings Usage status told calm tells cause = absurd cause
 solve_answers laws run file bytes log settings (Unread stop) status told calm tells cause =
     calm_read laws run bytes log (run.inputs_before.held Formula file) settings stop status told calm cause.stops tells
+solve_answers laws run file bytes log settings (Unjudged stop) status told calm tells cause = absurd cause
 solve_answers laws run file bytes log settings (Unwritten stop) status told calm tells cause =
     rw (read_told laws.ends bytes (run.inputs_before.held Formula file) (run.inputs_after.at Formula).left cause.cnf told cause.read)
     (λ fine. inr (status ∙ calm_cut run log (log_text cause.cnf settings) (answer_text (outcome_of cause.cnf settings)) stop fine cause.stops))

@@ -1,5 +1,7 @@
 pub mod ReadingLemmas
 pub mod Backed
+pub mod Found
+pub mod Judged
 pub mod Logged
 pub mod Answered
 pub mod Options
@@ -7,4 +9,7 @@ pub mod Statuses
 pub mod Whole
 pub mod Ports
 pub mod Complete
+pub mod Ends
+pub mod SolveSentences
+pub mod CheckSentences
 pub mod Sentences

@@ -5,32 +5,28 @@ use Rattle.solo_core.specs.declared.sheet.Settings.{Settings}
 use Rattle.crew.specs.Log.{log_text}
 use Rattle.crew.specs.Outcome.{outcome_of}
 use Rattle.dp2ll.specs.declared.words.Job.{Job}
-use Rattle.dp2ll.specs.declared.words.Job.TheVariants.{Solve}
+use Rattle.dp2ll.specs.declared.words.Job.TheVariants.{Solve, Check}
 use Rattle.crew.specs.declared.outcome.Verdict.{Verdict}
 use Rattle.dp2ll.specs.declared.ending.WriteStop.{WriteStop}
 use Rattle.dp2ll.specs.declared.ending.WriteStop.TheVariants as writing
 use Rattle.dp2ll.specs.declared.ending.Ending.{Ending}
-use Rattle.dp2ll.specs.declared.ending.Ending.TheVariants.{Answered, Usage, Unread, Unwritten, NoMemory}
-use Rattle.dp2ll.specs.Ending.{status_of}
+use Rattle.dp2ll.specs.declared.ending.Ending.TheVariants.{Answered, Judged, Usage, Unread, Unjudged, Unwritten, NoMemory}
+use Rattle.desk_io.specs.Told.{InputsTold}
+use Rattle.dp2ll.specs.declared.finding.Finding.{Finding}
+use Rattle.dp2ll.specs.Ending.{status_of, finding_text}
 use Rattle.dp2ll.specs.Outcome.{answer_text}
 use Rattle.dp2ll.specs.Logging.{LogTold, LogsFault, LogsPart}
-use Rattle.dp2ll.specs.Answering.{Page, WritesBoth, IsCutInLog, IsCutInAnswer, CutsTexts}
-use Rattle.dp2ll.specs.Serving.{Desk, ReadsAs, SolveCause, Serves}
-use Rattle.dp2ll.specs.Headline.{OnSolve, WritesOwn, HasNoLog, IsSilent}
-
--- fronts of the texts of a run, the log's before the answer's
-abbrev OwnTexts : Cnf → Option (List ℕ) → Settings → Page → Page → Type 0
-OwnTexts cnf log settings before after =
-    IsCutInLog log (log_text cnf settings) before after
-    ⊎ IsCutInAnswer log (log_text cnf settings) (answer_text (outcome_of cnf settings)) before after
+use Rattle.dp2ll.specs.Answering.{Page, WritesBoth, WritesFronts, CutsTexts}
+use Rattle.dp2ll.specs.Serving.{Desk, SolveCause, CheckCause, Serves}
+use Rattle.dp2ll.specs.Headline.{WritesOwn, SaysOwn, LeavesOwn, HasNoLog, IsSilent}
 
 -- whole texts are fronts
-whole_front : (log : Option (List ℕ)) (log_bytes answer_bytes : List ℕ) (before after : Page) → WritesBoth log log_bytes answer_bytes before after
-    → IsCutInAnswer log log_bytes answer_bytes before after
-whole_front log log_bytes answer_bytes before after both = record {
+pub whole_front : (log : Option (List ℕ)) (log_bytes answer_bytes : List ℕ) (before after : Page) → WritesBoth log log_bytes answer_bytes before after
+    → WritesFronts log log_bytes answer_bytes before after
+whole_front log log_bytes answer_bytes before after both = inr (record {
   logged = both.logged;
   front = record { done = answer_bytes; rest = []; parts = append-nil answer_bytes; bytes = both.answered };
-}
+})
 
 -- a log that failed is cut short
 failed_log : (log : Option (List ℕ)) (text : List ℕ) (before after : LogTold) → LogsFault log text before after → LogsPart log text before after
@@ -40,7 +36,7 @@ failed_log (Some name) text before after fault = inl fault.part
 -- texts that were cut short are fronts
 cut_texts : (log : Option (List ℕ)) (log_bytes answer_bytes : List ℕ) (before after : Page) (stop : WriteStop)
     → CutsTexts log log_bytes answer_bytes before after stop
-    → IsCutInLog log log_bytes before after ⊎ IsCutInAnswer log log_bytes answer_bytes before after
+    → WritesFronts log log_bytes answer_bytes before after
 cut_texts log log_bytes answer_bytes before after writing.LogFault cut =
     inl (record { unanswered = cut.unanswered; part = failed_log log log_bytes before.log after.log cut.failed })
 cut_texts log log_bytes answer_bytes before after writing.AnswerFault cut = inr cut.part
@@ -52,11 +48,13 @@ solved_texts : (file : List ℕ) (log : Option (List ℕ)) (settings : Settings)
 solved_texts file log settings before after (Answered verdict) cause = inr (record {
   cnf = cause.cnf;
   read = cause.read;
-  texts = inr (whole_front log (log_text cause.cnf settings) (answer_text (outcome_of cause.cnf settings)) before.page after.page
-      cause.answered.texts);
+  texts = whole_front log (log_text cause.cnf settings) (answer_text (outcome_of cause.cnf settings)) before.page after.page
+      cause.answered.texts;
 })
+solved_texts file log settings before after (Judged finding) cause = absurd cause
 solved_texts file log settings before after Usage cause = absurd cause
 solved_texts file log settings before after (Unread stop) cause = inl cause.untouched
+solved_texts file log settings before after (Unjudged stop) cause = absurd cause
 solved_texts file log settings before after (Unwritten stop) cause = inr (record {
   cnf = cause.cnf;
   read = cause.read;
@@ -64,12 +62,34 @@ solved_texts file log settings before after (Unwritten stop) cause = inr (record
 })
 solved_texts file log settings before after NoMemory cause = absurd cause
 
+-- log and answer after `check`
+checked_texts : (file proof : List ℕ) (before : Desk) (between : InputsTold) (after : Desk) (how : Ending)
+    → CheckCause file proof before between after how → (after.page ≡ before.page) ⊎ SaysOwn file proof before after
+checked_texts file proof before between after (Answered verdict) cause = absurd cause
+checked_texts file proof before between after (Judged finding) cause = inr (record {
+  between = between;
+  finding = finding;
+  finds = cause.finds;
+  texts = whole_front None (finding_text finding) (finding_text finding) before.page after.page cause.says;
+})
+checked_texts file proof before between after Usage cause = absurd cause
+checked_texts file proof before between after (Unread stop) cause = inl cause.untouched
+checked_texts file proof before between after (Unjudged stop) cause = inl cause.untouched
+checked_texts file proof before between after (Unwritten stop) cause = inr (record {
+  between = between;
+  finding = cause.finding;
+  finds = cause.finds;
+  texts = cut_texts None (finding_text cause.finding) (finding_text cause.finding) before.page after.page stop cause.cut;
+})
+checked_texts file proof before between after NoMemory cause = absurd cause
+
 -- log and answer after any words
 pub served_texts : (job : Option Job) (before after : Desk) (how : Ending) → Serves job before after how
-    → (after.page ≡ before.page) ⊎ OnSolve job (λ file log settings. WritesOwn file log settings before after)
+    → (after.page ≡ before.page) ⊎ LeavesOwn job before after
 served_texts None before after how refuses = inl (ap (λ (d : Desk). d.page) refuses.untouched)
 served_texts (Some (Solve file log settings)) before after how (inl solves) = solved_texts file log settings before after how solves.cause
-served_texts (Some (Solve file log settings)) before after how (inr gives_up) = inl (ap (λ (d : Desk). d.page) gives_up.untouched)
+served_texts (Some (Check file proof)) before after how (inl checks) = checked_texts file proof before checks.between after how checks.cause
+served_texts (Some job) before after how (inr gives_up) = inl (ap (λ (d : Desk). d.page) gives_up.untouched)
 
 -- a verdict has a status at which something may stand on the ports
 loud_verdict : (verdict : Verdict) → IsSilent (status_of (Answered verdict)) → ⊥
@@ -83,28 +103,51 @@ loud_stop stop silent = search rules
 silent_solve : (file : List ℕ) (log : Option (List ℕ)) (settings : Settings) (before after : Desk) (how : Ending) → IsSilent (status_of how)
     → SolveCause file log settings before after how → after.page ≡ before.page
 silent_solve file log settings before after (Answered verdict) silent cause = absurd (loud_verdict verdict silent)
+silent_solve file log settings before after (Judged finding) silent cause = absurd cause
 silent_solve file log settings before after Usage silent cause = absurd cause
 silent_solve file log settings before after (Unread stop) silent cause = cause.untouched
+silent_solve file log settings before after (Unjudged stop) silent cause = absurd cause
 silent_solve file log settings before after (Unwritten stop) silent cause = absurd (loud_stop stop silent)
 silent_solve file log settings before after NoMemory silent cause = absurd cause
+
+-- a finding has a status at which something may stand on the answer port
+loud_finding : (finding : Finding) → IsSilent (status_of (Judged finding)) → ⊥
+loud_finding finding silent = search rules
+
+-- `check` that ended with a silent status wrote nothing
+silent_check : (file proof : List ℕ) (before : Desk) (between : InputsTold) (after : Desk) (how : Ending) → IsSilent (status_of how)
+    → CheckCause file proof before between after how → after.page ≡ before.page
+silent_check file proof before between after (Answered verdict) silent cause = absurd cause
+silent_check file proof before between after (Judged finding) silent cause = absurd (loud_finding finding silent)
+silent_check file proof before between after Usage silent cause = absurd cause
+silent_check file proof before between after (Unread stop) silent cause = cause.untouched
+silent_check file proof before between after (Unjudged stop) silent cause = cause.untouched
+silent_check file proof before between after (Unwritten stop) silent cause = absurd (loud_stop stop silent)
+silent_check file proof before between after NoMemory silent cause = absurd cause
 
 -- a run that ended with a silent status wrote nothing
 pub silent_run : (job : Option Job) (before after : Desk) (how : Ending) → IsSilent (status_of how) → Serves job before after how
     → after.page ≡ before.page
 silent_run None before after how silent refuses = ap (λ (d : Desk). d.page) refuses.untouched
-silent_run (Some (Solve file log settings)) before after how silent (inl solves) = silent_solve file log settings before after how silent solves.cause
-silent_run (Some (Solve file log settings)) before after how silent (inr gives_up) = ap (λ (d : Desk). d.page) gives_up.untouched
+silent_run (Some (Solve file log settings)) before after how silent (inl solves) =
+    silent_solve file log settings before after how silent solves.cause
+silent_run (Some (Check file proof)) before after how silent (inl checks) =
+    silent_check file proof before checks.between after how silent checks.cause
+silent_run (Some job) before after how silent (inr gives_up) = ap (λ (d : Desk). d.page) gives_up.untouched
 
 -- texts without a log leave all of logs as it was
-unlogged_texts : (cnf : Cnf) (settings : Settings) (before after : Page) → OwnTexts cnf None settings before after → after.log ≡ before.log
-unlogged_texts cnf settings before after (inl cut) = cut.part
-unlogged_texts cnf settings before after (inr cut) = cut.logged
+pub unlogged_texts : (log_bytes answer_bytes : List ℕ) (before after : Page) → WritesFronts None log_bytes answer_bytes before after
+    → after.log ≡ before.log
+unlogged_texts log_bytes answer_bytes before after (inl cut) = cut.part
+unlogged_texts log_bytes answer_bytes before after (inr cut) = cut.logged
 
 -- without a named log nothing of logs changes
-pub unlogged : (job : Option Job) (before after : Desk) → HasNoLog job
-    → (after.page ≡ before.page) ⊎ OnSolve job (λ file log settings. WritesOwn file log settings before after)
+pub unlogged : (job : Option Job) (before after : Desk) → HasNoLog job → (after.page ≡ before.page) ⊎ LeavesOwn job before after
     → after.page.log ≡ before.page.log
 unlogged job before after none (inl same) = ap (λ (page : Page). page.log) same
 unlogged None before after none (inr own) = absurd own
-unlogged (Some (Solve file None settings)) before after none (inr own) = unlogged_texts own.cnf settings before.page after.page own.texts
+unlogged (Some (Solve file None settings)) before after none (inr own) =
+    unlogged_texts (log_text own.cnf settings) (answer_text (outcome_of own.cnf settings)) before.page after.page own.texts
 unlogged (Some (Solve file (Some name) settings)) before after none (inr own) = absurd none
+unlogged (Some (Check file proof)) before after none (inr own) =
+    unlogged_texts (finding_text own.finding) (finding_text own.finding) before.page after.page own.texts

@@ -2,9 +2,10 @@
 use Rattle.std.proofs.Common.{◌≡◌, ◌⊎◌, ℕ, ◌≤◌, ◌+◌, List, [], ◌++◌, length, refl, ap, sym, ◌∙◌, inl, inr, append_assoc, append-nil, length-append, arith, Option, Some, None, Ok, Err, Bool, true, false, take, length-take}
 use Rattle.std.specs.Io.KnownBytes.{prepend_known}
 use Rattle.lit_base.specs.Cnf.{Cnf}
-use Rattle.desk_io.specs.Told.{InputsTold, SlotTold, Rose}
+use Rattle.desk_io.specs.Told.{InputsTold, SlotTold, Rose, KeepsOtherSlots}
 use Rattle.desk_io.specs.Inputs.{TakesFirst}
-use Rattle.desk_io.specs.declared.Slot.TheVariants.{Formula}
+use Rattle.desk_io.specs.declared.Slot.{Slot}
+use Rattle.desk_io.specs.declared.Slot.TheVariants.{Formula, Proof}
 use Rattle.cnf_text.specs.declared.fault.CnfFault.{CnfFault}
 use Rattle.cnf_text.specs.declared.fault.CnfFault.TheVariants as cnf
 use Rattle.cnf_text.specs.Faults.{OnFault}
@@ -14,7 +15,7 @@ use Rattle.cnf_text.specs.Reader.{HasRead, Ends}
 use Rattle.cnf_text.specs.Laws.{ReadBytesAreSound, ReadBytesAreFew}
 use Rattle.dp2ll.specs.declared.ending.ReadStop.{ReadStop}
 use Rattle.dp2ll.specs.declared.ending.ReadStop.TheVariants.{NoFormula, ReadFault, NoMemory}
-use Rattle.dp2ll.specs.Reading.{KeepsBegun, GoesOn, Takes, bytes_taken, IsReading, StopsAtPiece, ReadsPiece, MeetsFault, StopsBy, ReadsOn, ReadsNothing, ReadsLast, TakesPiece, ReadsAll, StopsReading, IsRead, IsOfFile}
+use Rattle.dp2ll.specs.Reading.{KeepsSlot, KeepsBegun, GoesOn, TakesWhile, Takes, bytes_taken, IsReading, StopsAtPiece, ReadsPiece, MeetsFault, StopsBy, ReadsOn, ReadsNothing, ReadsLast, TakesPiece, ReadsAll, StopsReading, IsRead, IsOfFile}
 
 -- bytes put before bytes put before the known ones
 prepend_twice : (front back : List ℕ) (known : Option (List ℕ)) → prepend_known front (prepend_known back known) ≡ prepend_known (front ++ back) known
@@ -22,17 +23,17 @@ prepend_twice front back None = refl
 prepend_twice front back (Some bytes) = ap (λ (all : List ℕ). Some all) (sym (append_assoc front back bytes))
 
 -- no bytes put before the known ones
-prepend_nothing : (known : Option (List ℕ)) → prepend_known [] known ≡ known
+pub prepend_nothing : (known : Option (List ℕ)) → prepend_known [] known ≡ known
 prepend_nothing None = refl
 prepend_nothing (Some bytes) = refl
 
 -- what was left at first is what was taken and then a piece and then what is left
-taken_on : (taken piece : List ℕ) (start now next : Option (List ℕ)) → start ≡ prepend_known taken now → now ≡ prepend_known piece next
+pub taken_on : (taken piece : List ℕ) (start now next : Option (List ℕ)) → start ≡ prepend_known taken now → now ≡ prepend_known piece next
     → start ≡ prepend_known (taken ++ piece) next
 taken_on taken piece start now next rest left = rest ∙ ap (prepend_known taken) left ∙ prepend_twice taken piece next
 
 -- a count that rose from a later moment rose from an earlier one
-rose_since : (first before after : ℕ) → first ≤ before → Rose before after → Rose first after
+pub rose_since : (first before after : ℕ) → first ≤ before → Rose before after → Rose first after
 rose_since first before after later rose = omega arith
 
 -- the line that ends the input isn't met in nothing
@@ -45,9 +46,9 @@ nothing_goes_on : ReadBytesAreSound → (reader : ReaderState) → HasRead reade
 nothing_goes_on sound reader read = record { no_fault = sound reader [] read; not_ended = nothing_ended }
 
 -- judged pieces and one more
-abbrev takes_more : (held now next : Option (List ℕ)) (taken piece : List ℕ) → GoesOn taken → length piece ≤ 65536 → held ≡ prepend_known taken now
-    → now ≡ prepend_known piece next → Takes held next
-takes_more held now next taken piece goes_on short rest left = record {
+abbrev pub takes_more : (goes : List ℕ → Type 0) (held now next : Option (List ℕ)) (taken piece : List ℕ) → goes taken → length piece ≤ 65536
+    → held ≡ prepend_known taken now → now ≡ prepend_known piece next → TakesWhile goes held next
+takes_more goes held now next taken piece goes_on short rest left = record {
   judged = taken;
   last = piece;
   goes_on = goes_on;
@@ -56,8 +57,9 @@ takes_more held now next taken piece goes_on short rest left = record {
 }
 
 -- judged pieces alone
-abbrev takes_judged : (held left : Option (List ℕ)) (taken : List ℕ) → GoesOn taken → held ≡ prepend_known taken left → Takes held left
-takes_judged held left taken goes_on rest = record {
+abbrev pub takes_judged : (goes : List ℕ → Type 0) (held left : Option (List ℕ)) (taken : List ℕ) → goes taken → held ≡ prepend_known taken left
+    → TakesWhile goes held left
+takes_judged goes held left taken goes_on rest = record {
   judged = taken;
   last = [];
   goes_on = goes_on;
@@ -101,14 +103,20 @@ piece_stops before after taken fault (NoFormula found) takes met by =
 piece_stops before after taken fault ReadFault takes met by = absurd by
 piece_stops before after taken fault NoMemory takes met by = takes
 
+-- what belongs to the other slot stays over two calls
+kept_others : (slot : Slot) (start now next : InputsTold) → KeepsOtherSlots slot start.at now.at → KeepsOtherSlots slot now.at next.at
+    → KeepsOtherSlots slot start.at next.at
+kept_others Formula start now next first second = second ∙ first
+kept_others Proof start now next first second = second ∙ first
+
 -- what a call that keeps the slot keeps over two calls
-kept_twice : (start now next : InputsTold) → KeepsBegun start now → KeepsBegun now next → KeepsBegun start next
-kept_twice start now next first second = record {
+pub kept_twice : (slot : Slot) (start now next : InputsTold) → KeepsSlot slot start now → KeepsSlot slot now next → KeepsSlot slot start next
+kept_twice slot start now next first second = record {
   held = second.held ∙ first.held;
   begun = second.begun ∙ first.begun;
   begins = second.begins ∙ first.begins;
   later = omega (arith, first.later, second.later);
-  others = second.others ∙ first.others;
+  others = kept_others slot start now next first.others second.others;
 }
 
 -- where reading stands before the first read
@@ -126,7 +134,7 @@ reading_starts sound start reader read = record {
 pub reading_goes_on : (start now next : InputsTold) (reader after : ReaderState) (turns : ℕ) → (h : IsReading start now reader turns)
     → KeepsBegun now next → ReadsOn (now.at Formula) (next.at Formula) after h.taken → IsReading start next after (turns + 1)
 reading_goes_on start now next reader after turns h kept t = record {
-  kept = kept_twice start now next h.kept kept;
+  kept = kept_twice Formula start now next h.kept kept;
   taken = h.taken ++ t.takes.bytes;
   read = t.read;
   goes_on = t.goes_on;
@@ -145,7 +153,7 @@ pub pieces_stop : (start now next : InputsTold) (reader : ReaderState) (turns : 
     → StopsAtPiece (now.at Formula) (next.at Formula) h.taken stop
     → StopsReading (start.at Formula).left (start.at Formula) (next.at Formula) stop
 pieces_stop start now next reader turns (NoFormula fault) h t = record {
-  takes = takes_more (start.at Formula).left (now.at Formula).left (next.at Formula).left h.taken t.takes.bytes h.goes_on t.takes.piece h.rest t.takes.left;
+  takes = takes_more GoesOn (start.at Formula).left (now.at Formula).left (next.at Formula).left h.taken t.takes.bytes h.goes_on t.takes.piece h.rest t.takes.left;
   of_file = t.of_file;
   found = inl t.found;
 }
@@ -156,19 +164,19 @@ pieces_stop start now next reader turns ReadFault h t = record {
   rose = rose_since (start.at Formula).faults (now.at Formula).faults (next.at Formula).faults h.kept.later t.rose;
 }
 pieces_stop start now next reader turns NoMemory h t =
-    takes_more (start.at Formula).left (now.at Formula).left (next.at Formula).left h.taken t.bytes h.goes_on t.piece h.rest t.left
+    takes_more GoesOn (start.at Formula).left (now.at Formula).left (next.at Formula).left h.taken t.bytes h.goes_on t.piece h.rest t.left
 
 -- a read that ends the loop
 pub pieces_end : (start now next : InputsTold) (reader after : ReaderState) (turns : ℕ) → (h : IsReading start now reader turns)
     → ReadsNothing (now.at Formula) (next.at Formula) after h.taken ⊎ ReadsLast (now.at Formula) (next.at Formula) after h.taken
     → ReadsAll (start.at Formula).left (next.at Formula).left after
 pieces_end start now next reader after turns h (inl t) = record {
-  takes = takes_judged (start.at Formula).left (next.at Formula).left h.taken h.goes_on (h.rest ∙ ap (prepend_known h.taken) (sym t.left));
+  takes = takes_judged GoesOn (start.at Formula).left (next.at Formula).left h.taken h.goes_on (h.rest ∙ ap (prepend_known h.taken) (sym t.left));
   read = rw (append-nil h.taken) (t.read);
   whole = inl t.at_end;
 }
 pieces_end start now next reader after turns h (inr t) = record {
-  takes = takes_more (start.at Formula).left (now.at Formula).left (next.at Formula).left h.taken t.takes.bytes h.goes_on t.takes.piece h.rest t.takes.left;
+  takes = takes_more GoesOn (start.at Formula).left (now.at Formula).left (next.at Formula).left h.taken t.takes.bytes h.goes_on t.takes.piece h.rest t.takes.left;
   read = t.read;
   whole = inr t.ended;
 }
@@ -187,7 +195,7 @@ unbegun sound held before now reader read left rose = record {
 pub unread : ReadBytesAreSound → (held : Option (List ℕ)) (before now : SlotTold) (reader : ReaderState) → HasRead reader []
     → now.left ≡ held → StopsReading held before now NoMemory
 unread sound held before now reader read left =
-    takes_judged held now.left [] (nothing_goes_on sound reader read) (sym left ∙ sym (prepend_nothing now.left))
+    takes_judged GoesOn held now.left [] (nothing_goes_on sound reader read) (sym left ∙ sym (prepend_nothing now.left))
 
 -- the whole file is this formula
 pub all_read : (held : Option (List ℕ)) (start after : SlotTold) (reader : ReaderState) (cnf : Cnf) → start.left ≡ held

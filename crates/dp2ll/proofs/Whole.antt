@@ -8,13 +8,13 @@ use Rattle.cnf_text.specs.Laws.{EarlyFaultStays, EndEndsInput}
 use Rattle.dp2ll.specs.Reading.{IsWhole, IsRead, IsNoFormula, bytes_taken}
 
 -- where bytes are told and nothing is left of them, all were taken
-all_taken : (bytes taken : List ℕ) (held left : Option (List ℕ)) → held ≡ Some bytes → held ≡ prepend_known taken left → IsAtEnd left
+pub all_taken : (bytes taken : List ℕ) (held left : Option (List ℕ)) → held ≡ Some bytes → held ≡ prepend_known taken left → IsAtEnd left
     → bytes ≡ taken
 all_taken bytes taken held None told rest end = cc
 all_taken bytes taken held (Some more) told rest end = let nothing : taken ++ more ≡ taken = rw end (append-nil taken) in cc
 
 -- where bytes are told, they are those that were taken and then others
-some_taken : (bytes taken : List ℕ) (held left : Option (List ℕ)) → held ≡ Some bytes → held ≡ prepend_known taken left
+pub some_taken : (bytes taken : List ℕ) (held left : Option (List ℕ)) → held ≡ Some bytes → held ≡ prepend_known taken left
     → (more : List ℕ) × (bytes ≡ taken ++ more)
 some_taken bytes taken held None told rest = cc
 some_taken bytes taken held (Some more) told rest = (more, (cc))

@@ -53,12 +53,21 @@ pub record IsUnanswered (log : Option (List ℕ)) (log_bytes answer_bytes : List
   pub part : IsCutInAnswer log log_bytes answer_bytes before after
   pub rose : Rose before.answer.faults after.answer.faults
 
+-- a front of the log stands and nothing of the answer, or the whole log and a front of the answer
+abbrev pub WritesFronts : Option (List ℕ) → List ℕ → List ℕ → Page → Page → Type 0
+WritesFronts log log_bytes answer_bytes before after =
+    IsCutInLog log log_bytes before after ⊎ IsCutInAnswer log log_bytes answer_bytes before after
+
 -- what each way to stop while two texts are written leaves
 abbrev pub CutsTexts : Option (List ℕ) → List ℕ → List ℕ → Page → Page → WriteStop → Type 0
 CutsTexts log log_bytes answer_bytes before after LogFault = IsUnlogged log log_bytes before after
 CutsTexts log log_bytes answer_bytes before after AnswerFault = IsUnanswered log log_bytes answer_bytes before after
-CutsTexts log log_bytes answer_bytes before after NoMemory =
-    IsCutInLog log log_bytes before after ⊎ IsCutInAnswer log log_bytes answer_bytes before after
+CutsTexts log log_bytes answer_bytes before after NoMemory = WritesFronts log log_bytes answer_bytes before after
+
+-- what writing a log and an answer leaves, by how it ended
+abbrev pub WritesTexts : Option (List ℕ) → List ℕ → List ℕ → Page → Page → Result (Unit {0}) WriteStop → Type 0
+WritesTexts log log_bytes answer_bytes before after (Ok done) = WritesBoth log log_bytes answer_bytes before after
+WritesTexts log log_bytes answer_bytes before after (Err stop) = CutsTexts log log_bytes answer_bytes before after stop
 
 -- the run has this verdict, which is backed, and log and answer hold exactly its texts
 pub record IsAnswered (cnf : Cnf) (settings : Settings) (log : Option (List ℕ)) (before after : Page) (verdict : Verdict) : Type 0 where

@@ -1,32 +1,39 @@
 -- What a run of the program promises: its status, its answer, its log and its complaint, and when each comes.
-use Rattle.std.specs.Prelude.{◌≡◌, ◌⊎◌, ◌↔◌, ℕ, List, Bool, ◌++◌, codes, Option, Some, None, Result, Ok, Err, String, string_bytes, map}
+use Rattle.std.specs.Prelude.{◌≡◌, ◌⊎◌, ◌↔◌, ℕ, List, Bool, false, if◌then◌else◌, ◌++◌, codes, Option, Some, None, Result, Ok, Err, String, string_bytes, map}
 use Rattle.std.specs.declared.alloc.Global.{Global}
 use Rattle.std.specs.Io.KnownBytes.{append_known}
 use Rattle.lit_base.specs.Cnf.{Cnf}
 use Rattle.lit_base.specs.Text.{values_text}
+use Rattle.lit_base.specs.Judgement.{checks, Checks, HasNoModel}
+use Rattle.lrat_text.specs.Reading.{Steps, proof_steps}
 use Rattle.desk_io.specs.Told.{InputsTold, OutputsTold, Rose}
-use Rattle.desk_io.specs.declared.Slot.TheVariants.{Formula}
+use Rattle.desk_io.specs.declared.Slot.TheVariants.{Formula, Proof}
 use Rattle.desk_io.specs.declared.Port.TheVariants.{Answer, Log, Complaint}
 use Rattle.cnf_text.specs.declared.fault.CnfFault.{CnfFault}
 use Rattle.cnf_text.specs.Reading.{formula_of}
 use Rattle.solo_core.specs.declared.sheet.Settings.{Settings}
 use Rattle.dp2ll.specs.declared.words.Job.{Job}
-use Rattle.dp2ll.specs.declared.words.Job.TheVariants.{Solve}
+use Rattle.dp2ll.specs.declared.words.Job.TheVariants.{Solve, Check}
 use Rattle.crew.specs.declared.outcome.Verdict.TheVariants.{Sat, Unsat, Unknown}
 use Rattle.crew.specs.Log.{log_text}
 use Rattle.crew.specs.Outcome.{outcome_of}
 use Rattle.dp2ll.specs.declared.ending.ReadStop.TheVariants as reading
+use Rattle.dp2ll.specs.declared.ending.ProofStop.TheVariants as proof
 use Rattle.dp2ll.specs.declared.ending.WriteStop.TheVariants as writing
+use Rattle.dp2ll.specs.declared.finding.Flaw.{Flaw}
+use Rattle.dp2ll.specs.declared.finding.Finding.{Finding}
+use Rattle.dp2ll.specs.declared.finding.Finding.TheVariants.{Verified, Flawed}
 use Rattle.dp2ll.specs.declared.ending.Ending.{Ending}
-use Rattle.dp2ll.specs.declared.ending.Ending.TheVariants.{Answered, Usage, Unread, Unwritten}
+use Rattle.dp2ll.specs.declared.ending.Ending.TheVariants.{Answered, Judged, Usage, Unread, Unjudged, Unwritten}
 use Rattle.dp2ll.specs.Job.{job_of}
-use Rattle.dp2ll.specs.Ending.{verdict_status, status_of, complaint_of}
+use Rattle.dp2ll.specs.Ending.{verdict_status, status_of, complaint_of, finding_text, flaw_complaint}
 use Rattle.dp2ll.specs.Outcome.{answer_text, FindsModel, IsRefuted, AreAllSpent}
 use Rattle.dp2ll.specs.Logging.{log_told, LogsWhole}
-use Rattle.dp2ll.specs.Answering.{IsCutInLog, IsCutInAnswer, WritesBoth}
+use Rattle.dp2ll.specs.Answering.{WritesBoth, WritesFronts}
 use Rattle.dp2ll.specs.Complaint.{Tells, TellsFront, Complains}
-use Rattle.dp2ll.specs.Reading.{BeginsFormula}
-use Rattle.dp2ll.specs.Serving.{Desk, desk, ReadsAs, Solves, Serves}
+use Rattle.dp2ll.specs.Reading.{BeginsSlot, BeginsFormula}
+use Rattle.dp2ll.specs.Judging.{IsFlaw}
+use Rattle.dp2ll.specs.Serving.{Desk, desk, ReadsAs, FindsProof, ServesJob, Serves}
 
 -- one call of the program: its job, what inputs and outputs told before and after it, and its exit status
 pub record Run : Type 0 where
@@ -66,10 +73,25 @@ pub record Headline (run : Run) : Type 0 where
 abbrev pub OnSolve : Option Job → (List ℕ → Option (List ℕ) → Settings → Type 0) → Type 0
 OnSolve None P = ⊥
 OnSolve (Some (Solve file log settings)) P = P file log settings
+OnSolve (Some (Check file proof)) P = ⊥
 
--- a `solve` ended like this by its cause, and its complaint was told
+-- the job is `check` of a formula's file and a proof's, of which this holds
+abbrev pub OnCheck : Option Job → (List ℕ → List ℕ → Type 0) → Type 0
+OnCheck None P = ⊥
+OnCheck (Some (Solve file log settings)) P = ⊥
+OnCheck (Some (Check file proof)) P = P file proof
+
+-- the job is `solve`
+abbrev pub IsSolve : Option Job → Type 0
+IsSolve job = OnSolve job (λ file log settings. Unit {0})
+
+-- the job is `check`
+abbrev pub IsCheck : Option Job → Type 0
+IsCheck job = OnCheck job (λ file proof. Unit {0})
+
+-- the command ended like this by its cause, and its complaint was told
 pub record EndsBy (run : Run) (how : Ending) : Type 0 where
-  pub solves : OnSolve run.job (λ file log settings. Solves file log settings (desk_before run) (desk_after run) how)
+  pub serves : ServesJob run.job (desk_before run) (desk_after run) how
   pub complaint : Tells (complaint_of how) (run.before.at Complaint) (run.after.at Complaint)
 
 -- the words are no command line, and the complaint says how to call the program
@@ -88,6 +110,9 @@ pub record IsSolved (run : Run) : Type 0 where
   pub satisfiable : run.status ≡ 10 → EndsBy run (Answered Sat)
   pub unsatisfiable : run.status ≡ 20 → EndsBy run (Answered Unsat)
   pub given_up : run.status ≡ 0 → EndsBy run (Answered Unknown)
+
+-- the status is that of an ending
+pub record HasStatus (run : Run) : Type 0 where
   pub ending : Ending
   pub status : run.status ≡ status_of ending
 
@@ -132,10 +157,17 @@ pub record GivesUpSpent (run : Run) (file : List ℕ) (settings : Settings) : Ty
 abbrev pub IsUnknown : Run → Type 0
 IsUnknown run = IsVerdict run.status → OnSolve run.job (λ file log settings. GivesUpSpent run file settings)
 
--- the formula's slot is begun at most once, with the job's file, and nothing else of the inputs changes
+-- the formula's slot was begun with this file, and then the proof's with that, or not at all
+pub record ReadsTwo (file proof : List ℕ) (before after : InputsTold) : Type 0 where
+  pub between : InputsTold
+  pub first : BeginsFormula file before between
+  pub second : BeginsSlot Proof proof between after ⊎ (after ≡ between)
+
+-- a slot is begun at most once, with the file that the job names for it, and nothing else of the inputs changes
 abbrev pub ReadsFile : Option Job → InputsTold → InputsTold → Type 0
 ReadsFile None before after = after ≡ before
 ReadsFile (Some (Solve file log settings)) before after = BeginsFormula file before after ⊎ (after ≡ before)
+ReadsFile (Some (Check file proof)) before after = ReadsTwo file proof before after ⊎ (after ≡ before)
 
 -- the run ended for want of memory, with its line, or memory was refused to the complaint of another ending whose cause holds
 pub record WantsMemory (run : Run) : Type 0 where
@@ -147,7 +179,7 @@ pub record WantsMemory (run : Run) : Type 0 where
 -- statuses 2 to 5 come only by their causes, with the complaint of that cause, and whatever comes, only the job's file is begun
 pub record IsRefusal (run : Run) : Type 0 where
   pub no_formula : run.status ≡ 2 → (fault : CnfFault) × EndsBy run (Unread (reading.NoFormula fault))
-  pub unread : run.status ≡ 3 → EndsBy run (Unread reading.ReadFault)
+  pub unread : run.status ≡ 3 → EndsBy run (Unread reading.ReadFault) ⊎ EndsBy run (Unjudged proof.ReadFault)
   pub unwritten : run.status ≡ 4 → EndsBy run (Unwritten writing.LogFault) ⊎ EndsBy run (Unwritten writing.AnswerFault)
   pub no_memory : run.status ≡ 5 → WantsMemory run
   pub inputs : ReadsFile run.job run.inputs_before run.inputs_after
@@ -157,14 +189,27 @@ pub record IsRefusal (run : Run) : Type 0 where
 pub record WritesOwn (file : List ℕ) (log : Option (List ℕ)) (settings : Settings) (before after : Desk) : Type 0 where
   pub cnf : Cnf
   pub read : ReadsAs file before after cnf
-  pub texts : IsCutInLog log (log_text cnf settings) before.page after.page
-      ⊎ IsCutInAnswer log (log_text cnf settings) (answer_text (outcome_of cnf settings)) before.page after.page
+  pub texts : WritesFronts log (log_text cnf settings) (answer_text (outcome_of cnf settings)) before.page after.page
+
+-- this was found of the proof, a front of the answer that says so stands, and nothing of logs changed
+pub record SaysOwn (file proof : List ℕ) (before after : Desk) : Type 0 where
+  pub between : InputsTold
+  pub finding : Finding
+  pub finds : FindsProof file proof before between after finding
+  pub texts : WritesFronts None (finding_text finding) (finding_text finding) before.page after.page
+
+-- what a command leaves of its own texts
+abbrev pub LeavesOwn : Option Job → Desk → Desk → Type 0
+LeavesOwn None before after = ⊥
+LeavesOwn (Some (Solve file log settings)) before after = WritesOwn file log settings before after
+LeavesOwn (Some (Check file proof)) before after = SaysOwn file proof before after
 
 -- the job names no log
 abbrev pub HasNoLog : Option Job → Type 0
 HasNoLog None = Unit {0}
 HasNoLog (Some (Solve file None settings)) = Unit {0}
 HasNoLog (Some (Solve file (Some name) settings)) = ⊥
+HasNoLog (Some (Check file proof)) = Unit {0}
 
 -- the statuses at which neither log nor answer is touched
 abbrev pub IsSilent : ℕ → Type 0
@@ -172,8 +217,7 @@ IsSilent status = (status ≡ 1) ⊎ (status ≡ 2) ⊎ (status ≡ 3)
 
 -- what stands on the ports at every return: on log and answer the file's own texts, and the complaint of how the run ended
 pub record KeepsPorts (run : Run) : Type 0 where
-  pub texts : ((desk_after run).page ≡ (desk_before run).page)
-      ⊎ OnSolve run.job (λ file log settings. WritesOwn file log settings (desk_before run) (desk_after run))
+  pub texts : ((desk_after run).page ≡ (desk_before run).page) ⊎ LeavesOwn run.job (desk_before run) (desk_after run)
   pub silent : IsSilent run.status → (desk_after run).page ≡ (desk_before run).page
   pub no_log : HasNoLog run.job → log_told run.after ≡ log_told run.before
   pub complaint : Headline run
@@ -206,13 +250,80 @@ IsComplete run =
     → ¬ Rose (run.inputs_before.at Formula).faults (run.inputs_after.at Formula).faults
     → AnswersFile (formula_of bytes) log settings run
 
--- the sentences of a run, which follow from its record
-pub record Sentences (run : Run) : Type 0 where
-  pub words : Words run
+-- == `check` ==
+
+-- where the proof is told, it reads as steps of which this holds
+abbrev pub OnToldProof : Run → List ℕ → (Steps → Type 0) → Type 0
+OnToldProof run proof P = (bytes : List ℕ) → run.inputs_before.held Proof proof ≡ Some bytes → P (proof_steps bytes)
+
+-- the answer says that the proof checks; it does, and no model satisfies the formula, which is the file's
+pub record SaysVerified (run : Run) (file proof : List ℕ) : Type 0 where
+  pub cnf : Cnf
+  pub checked : OnToldProof run proof (λ steps. Checks cnf steps.lines)
+  pub no_model : HasNoModel cnf
+  pub printed : (run.after.at Answer).written ≡ append_known (run.before.at Answer).written (codes "s VERIFIED\n")
+  pub told : IsToldFormula run file cnf
+
+-- the answer says that the proof doesn't check, and the complaint why: it has this flaw, and is no proof of the formula, which
+-- is the file's
+pub record SaysFlaw (run : Run) (file proof : List ℕ) : Type 0 where
+  pub cnf : Cnf
+  pub flaw : Flaw
+  pub found : OnToldProof run proof (λ steps. IsFlaw cnf steps flaw)
+  pub unchecked : OnToldProof run proof (λ steps. checks cnf steps.lines ≡ false)
+  pub printed : (run.after.at Answer).written ≡ append_known (run.before.at Answer).written (codes "s NOT VERIFIED\n")
+  pub complaint : Tells (Some (flaw_complaint flaw)) (run.before.at Complaint) (run.after.at Complaint)
+  pub told : IsToldFormula run file cnf
+
+-- statuses 0 and 6 come only where the file is a formula and the proof was judged so
+pub record IsChecked (run : Run) : Type 0 where
+  pub verified : run.status ≡ 0 → EndsBy run (Judged Verified)
+  pub flawed : run.status ≡ 6 → (flaw : Flaw) × EndsBy run (Judged (Flawed flaw))
+
+-- no call on the proof's slot or on the answer failed
+pub record IsCalmCheck (run : Run) : Type 0 where
+  pub proof : ¬ Rose (run.inputs_before.at Proof).faults (run.inputs_after.at Proof).faults
+  pub answer : ¬ Rose (run.before.at Answer).faults (run.after.at Answer).faults
+
+-- whether the proof checks decides the status of a told proof; want of memory may always come
+abbrev pub AnswersProof : Cnf → Steps → Run → Type 0
+AnswersProof cnf steps run = (run.status ≡ (if checks cnf steps.lines then 0 else 6)) ⊎ (run.status ≡ 5)
+
+-- where the file is told and no call failed, its bytes and those of the proof alone decide
+abbrev pub AnswersCheck : Result Cnf CnfFault → List ℕ → Run → Type 0
+AnswersCheck (Ok cnf) proof run = IsCalmCheck run → OnToldProof run proof (λ steps. AnswersProof cnf steps run)
+AnswersCheck (Err fault) proof run = RefusesFile fault run ⊎ (run.status ≡ 5)
+
+-- the same of both files
+abbrev pub IsCompleteCheck : Run → Type 0
+IsCompleteCheck run =
+    (file proof bytes : List ℕ) → run.job ≡ Some (Check file proof)
+    → run.inputs_before.held Formula file ≡ Some bytes
+    → ¬ Rose (run.inputs_before.at Formula).faults (run.inputs_after.at Formula).faults
+    → AnswersCheck (formula_of bytes) proof run
+
+-- == all sentences ==
+
+-- the sentences of `solve`
+pub record SolveSentences (run : Run) : Type 0 where
   pub solved : IsSolved run
   pub model : IsModel run
   pub refuted : IsRefutation run
   pub unknown : IsUnknown run
+  pub complete : IsComplete run
+
+-- the sentences of `check`
+pub record CheckSentences (run : Run) : Type 0 where
+  pub checked : IsChecked run
+  pub verified : run.status ≡ 0 → OnCheck run.job (λ file proof. SaysVerified run file proof)
+  pub flawed : run.status ≡ 6 → OnCheck run.job (λ file proof. SaysFlaw run file proof)
+  pub complete : IsCompleteCheck run
+
+-- the sentences of a run, which follow from its record
+pub record Sentences (run : Run) : Type 0 where
+  pub words : Words run
+  pub status : HasStatus run
+  pub solve : IsSolve run.job → SolveSentences run
+  pub check : IsCheck run.job → CheckSentences run
   pub refused : IsRefusal run
   pub ports : KeepsPorts run
-  pub complete : IsComplete run

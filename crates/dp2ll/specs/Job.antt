@@ -6,7 +6,7 @@ use Rattle.std.specs.Str.Parse.{digits_value}
 use Rattle.solo_core.specs.declared.sheet.Settings.{Settings}
 use Rattle.crew.specs.Run.{AreOfOneCore}
 use Rattle.dp2ll.specs.declared.words.Job.{Job}
-use Rattle.dp2ll.specs.declared.words.Job.TheVariants.{Solve}
+use Rattle.dp2ll.specs.declared.words.Job.TheVariants.{Solve, Check}
 use Rattle.dp2ll.specs.declared.words.WordFault.{WordFault}
 use Rattle.dp2ll.specs.declared.words.WordFault.TheVariants.{Usage, NoMemory}
 
@@ -81,14 +81,23 @@ solve_of [] = None
 solve_of (file ∷ options) =
     if is_file_word file && are_options options then solve_with file (settings_of options) (once (values_under (codes "--log") options)) else None
 
+-- the arguments of `check`: two file words, the formula's and the proof's
+abbrev pub check_of : List (List ℕ) → Option Job
+check_of [] = None
+check_of (file ∷ []) = None
+check_of (file ∷ proof ∷ []) = if is_file_word file && is_file_word proof then Some (Check file proof) else None
+check_of (file ∷ proof ∷ another ∷ more) = None
+
 -- the job that the words ask for, or none where they are no command line
 abbrev pub job_of : List (List ℕ) → Option Job
 job_of [] = None
-job_of (command ∷ arguments) = if bytes_eq command (codes "solve") then solve_of arguments else None
+job_of (command ∷ arguments) =
+    if bytes_eq command (codes "solve") then solve_of arguments else (if bytes_eq command (codes "check") then check_of arguments else None)
 
 -- a job's settings are in their ranges, with one core
 abbrev pub IsInRange : Job → Type 0
 IsInRange (Solve file log settings) = AreOfOneCore settings
+IsInRange (Check file proof) = Unit {0}
 
 -- reading the words gives their job, and a usage fault exactly where there is none
 abbrev pub ReadsWords : Option Job → Result Job WordFault → Type 0

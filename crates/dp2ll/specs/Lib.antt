@@ -3,6 +3,7 @@ pub mod Ending
 pub mod Running
 pub mod Outcome
 pub mod Reading
+pub mod Judging
 pub mod Logging
 pub mod Answering
 pub mod Complaint

@@ -3,6 +3,7 @@ use Rattle.std.specs.Prelude.{◌≡◌, ◌⊎◌, ℕ, ◌≤◌, List, ◌++�
 use Rattle.std.specs.Io.KnownBytes.{prepend_known, IsAtEnd}
 use Rattle.lit_base.specs.Cnf.{Cnf}
 use Rattle.desk_io.specs.Told.{InputsTold, SlotTold, raised, Rose, KeepsOtherSlots}
+use Rattle.desk_io.specs.declared.Slot.{Slot}
 use Rattle.desk_io.specs.declared.Slot.TheVariants.{Formula}
 use Rattle.cnf_text.specs.declared.fault.CnfFault.{CnfFault}
 use Rattle.cnf_text.specs.declared.fault.CnfFault.TheVariants as cnf
@@ -13,12 +14,16 @@ use Rattle.dp2ll.specs.declared.ending.ReadStop.{ReadStop}
 use Rattle.dp2ll.specs.declared.ending.ReadStop.TheVariants.{NoFormula, ReadFault, NoMemory}
 
 -- what reading leaves of the inputs, however it ended: the slot was begun once with this name, and nothing else changed
-pub record BeginsFormula (file : List ℕ) (before after : InputsTold) : Type 0 where
+pub record BeginsSlot (slot : Slot) (name : List ℕ) (before after : InputsTold) : Type 0 where
   pub held : after.held ≡ before.held
-  pub begun : (after.at Formula).begun ≡ before.held Formula file
-  pub begins : (after.at Formula).begins ≡ raised (before.at Formula).begins
-  pub later : (before.at Formula).faults ≤ (after.at Formula).faults
-  pub others : KeepsOtherSlots Formula before.at after.at
+  pub begun : (after.at slot).begun ≡ before.held slot name
+  pub begins : (after.at slot).begins ≡ raised (before.at slot).begins
+  pub later : (before.at slot).faults ≤ (after.at slot).faults
+  pub others : KeepsOtherSlots slot before.at after.at
+
+-- the same of the formula's file
+abbrev pub BeginsFormula : List ℕ → InputsTold → InputsTold → Type 0
+BeginsFormula file before after = BeginsSlot Formula file before after
 
 -- bytes after which one more piece is read: no fault stands in them, and no line that ends the input
 pub record GoesOn (bytes : List ℕ) : Type 0 where
@@ -29,17 +34,22 @@ pub record GoesOn (bytes : List ℕ) : Type 0 where
 abbrev pub IsPiece : List ℕ → Type 0
 IsPiece bytes = length bytes ≤ 65536
 
--- of the bytes that were held a front was taken, each piece judged before the next was read, then one piece more, and the others are left
-pub record Takes (held left : Option (List ℕ)) : Type 0 where
+-- of the bytes that were held a front was taken after which reading goes on, each piece judged before the next was read, then
+-- one piece more, and the others are left
+pub record TakesWhile (goes : List ℕ → Type 0) (held left : Option (List ℕ)) : Type 0 where
   pub judged : List ℕ
   pub last : List ℕ
-  pub goes_on : GoesOn judged
+  pub goes_on : goes judged
   pub piece : IsPiece last
   pub rest : held ≡ prepend_known (judged ++ last) left
 
 -- all bytes that were taken
-abbrev pub bytes_taken : {held left : Option (List ℕ)} → Takes held left → List ℕ
+abbrev pub bytes_taken : {goes : List ℕ → Type 0} {held left : Option (List ℕ)} → TakesWhile goes held left → List ℕ
 bytes_taken takes = takes.judged ++ takes.last
+
+-- the same of a formula's file
+abbrev pub Takes : Option (List ℕ) → Option (List ℕ) → Type 0
+Takes held left = TakesWhile GoesOn held left
 
 -- reading stopped where it should: nothing is left, or the line that ends the input was met
 abbrev pub IsWhole : List ℕ → Option (List ℕ) → Type 0
@@ -86,13 +96,17 @@ StopsBy fault (NoFormula found) = (found ≡ fault) × IsOfFile fault
 StopsBy fault ReadFault = ⊥
 StopsBy fault NoMemory = fault ≡ cnf.NoMemory
 
--- what one read, or several, leave of the inputs, however they ended
-pub record KeepsBegun (before after : InputsTold) : Type 0 where
+-- what one read of a slot, or several, leave of the inputs, however they ended
+pub record KeepsSlot (slot : Slot) (before after : InputsTold) : Type 0 where
   pub held : after.held ≡ before.held
-  pub begun : (after.at Formula).begun ≡ (before.at Formula).begun
-  pub begins : (after.at Formula).begins ≡ (before.at Formula).begins
-  pub later : (before.at Formula).faults ≤ (after.at Formula).faults
-  pub others : KeepsOtherSlots Formula before.at after.at
+  pub begun : (after.at slot).begun ≡ (before.at slot).begun
+  pub begins : (after.at slot).begins ≡ (before.at slot).begins
+  pub later : (before.at slot).faults ≤ (after.at slot).faults
+  pub others : KeepsOtherSlots slot before.at after.at
+
+-- the same of the formula's slot
+abbrev pub KeepsBegun : InputsTold → InputsTold → Type 0
+KeepsBegun before after = KeepsSlot Formula before after
 
 -- a piece was taken of what was left
 pub record TakesPiece (before after : SlotTold) : Type 0 where

@@ -2,17 +2,23 @@
 use Rattle.std.specs.Prelude.{◌≡◌, ◌⊎◌, ℕ, List, Option, Some, None, Result, Ok, Err}
 use Rattle.lit_base.specs.Cnf.{Cnf}
 use Rattle.desk_io.specs.Told.{InputsTold, OutputsTold}
-use Rattle.desk_io.specs.declared.Slot.TheVariants.{Formula}
+use Rattle.desk_io.specs.declared.Slot.TheVariants.{Formula, Proof}
+use Rattle.lit_base.specs.Judgement.{HasNoModel}
 use Rattle.dp2ll.specs.declared.words.Job.{Job}
-use Rattle.dp2ll.specs.declared.words.Job.TheVariants.{Solve}
+use Rattle.dp2ll.specs.declared.words.Job.TheVariants.{Solve, Check}
 use Rattle.solo_core.specs.declared.sheet.Settings.{Settings}
 use Rattle.crew.specs.declared.outcome.Verdict.{Verdict}
 use Rattle.dp2ll.specs.declared.ending.ReadStop.{ReadStop}
+use Rattle.dp2ll.specs.declared.finding.Finding.{Finding}
+use Rattle.dp2ll.specs.declared.finding.Finding.TheVariants.{Verified}
+use Rattle.dp2ll.specs.declared.ending.ProofStop.{ProofStop}
 use Rattle.dp2ll.specs.declared.ending.WriteStop.{WriteStop}
 use Rattle.dp2ll.specs.declared.ending.Ending.{Ending}
-use Rattle.dp2ll.specs.declared.ending.Ending.TheVariants.{Answered, Usage, Unread, Unwritten, NoMemory}
-use Rattle.dp2ll.specs.Reading.{BeginsFormula, IsRead, StopsReading}
-use Rattle.dp2ll.specs.Answering.{Page, page_of, IsAnswered, StopsWriting}
+use Rattle.dp2ll.specs.declared.ending.Ending.TheVariants.{Answered, Judged, Usage, Unread, Unjudged, Unwritten, NoMemory}
+use Rattle.dp2ll.specs.Ending.{finding_text}
+use Rattle.dp2ll.specs.Reading.{BeginsSlot, BeginsFormula, IsRead, StopsReading}
+use Rattle.dp2ll.specs.Judging.{IsJudged, StopsJudging}
+use Rattle.dp2ll.specs.Answering.{Page, page_of, WritesBoth, CutsTexts, IsAnswered, StopsWriting}
 
 -- what inputs and outputs tell at one moment, but for the complaint port
 pub record Desk : Type 0 where
@@ -47,8 +53,10 @@ pub record IsUnwritten (file : List ℕ) (log : Option (List ℕ)) (settings : S
 -- the cause of each ending of `solve` with these words, once the file was begun
 abbrev pub SolveCause : List ℕ → Option (List ℕ) → Settings → Desk → Desk → Ending → Type 0
 SolveCause file log settings before after (Answered verdict) = IsSolved file log settings before after verdict
+SolveCause file log settings before after (Judged finding) = ⊥
 SolveCause file log settings before after Usage = ⊥
 SolveCause file log settings before after (Unread stop) = IsUnread file before after stop
+SolveCause file log settings before after (Unjudged stop) = ⊥
 SolveCause file log settings before after (Unwritten stop) = IsUnwritten file log settings before after stop
 SolveCause file log settings before after NoMemory = ⊥
 
@@ -56,6 +64,67 @@ SolveCause file log settings before after NoMemory = ⊥
 pub record Solves (file : List ℕ) (log : Option (List ℕ)) (settings : Settings) (before after : Desk) (how : Ending) : Type 0 where
   pub begun : BeginsFormula file before.inputs after.inputs
   pub cause : SolveCause file log settings before after how
+
+-- == `check` ==
+
+-- the formula's file was read as this formula, and then the proof's slot was begun
+pub record BeginsProof (file proof : List ℕ) (before : Desk) (between : InputsTold) (after : Desk) (cnf : Cnf) : Type 0 where
+  pub read : IsRead (before.inputs.held Formula file) (between.at Formula).left cnf
+  pub begun : BeginsSlot Proof proof between after.inputs
+
+-- this was found of the proof's file
+pub record FindsProof (file proof : List ℕ) (before : Desk) (between : InputsTold) (after : Desk) (finding : Finding) : Type 0 where
+  pub cnf : Cnf
+  pub begins : BeginsProof file proof before between after cnf
+  pub found : IsJudged cnf (before.inputs.held Proof proof) (after.inputs.at Proof).left finding
+  pub refuted : finding ≡ Verified → HasNoModel cnf
+
+-- it was found and said, and nothing of logs changed
+pub record IsChecked (file proof : List ℕ) (before : Desk) (between : InputsTold) (after : Desk) (finding : Finding) : Type 0 where
+  pub finds : FindsProof file proof before between after finding
+  pub says : WritesBoth None (finding_text finding) (finding_text finding) before.page after.page
+
+-- the formula's file gave no formula, the proof was not begun, and nothing was written
+pub record IsUnchecked (file : List ℕ) (before : Desk) (between : InputsTold) (after : Desk) (stop : ReadStop) : Type 0 where
+  pub stops : StopsReading (before.inputs.held Formula file) (before.inputs.at Formula) (between.at Formula) stop
+  pub no_more : after.inputs ≡ between
+  pub untouched : after.page ≡ before.page
+
+-- the proof was not judged, and nothing was written
+pub record IsUnjudged (file proof : List ℕ) (before : Desk) (between : InputsTold) (after : Desk) (stop : ProofStop) : Type 0 where
+  pub cnf : Cnf
+  pub begins : BeginsProof file proof before between after cnf
+  pub stops : StopsJudging cnf (before.inputs.held Proof proof) (between.at Proof) (after.inputs.at Proof) stop
+  pub untouched : after.page ≡ before.page
+
+-- what was found was not said whole
+pub record IsUnsaid (file proof : List ℕ) (before : Desk) (between : InputsTold) (after : Desk) (stop : WriteStop) : Type 0 where
+  pub finding : Finding
+  pub finds : FindsProof file proof before between after finding
+  pub cut : CutsTexts None (finding_text finding) (finding_text finding) before.page after.page stop
+
+-- the cause of each ending of `check` with these words; the inputs told this between the two files
+abbrev pub CheckCause : List ℕ → List ℕ → Desk → InputsTold → Desk → Ending → Type 0
+CheckCause file proof before between after (Answered verdict) = ⊥
+CheckCause file proof before between after (Judged finding) = IsChecked file proof before between after finding
+CheckCause file proof before between after Usage = ⊥
+CheckCause file proof before between after (Unread stop) = IsUnchecked file before between after stop
+CheckCause file proof before between after (Unjudged stop) = IsUnjudged file proof before between after stop
+CheckCause file proof before between after (Unwritten stop) = IsUnsaid file proof before between after stop
+CheckCause file proof before between after NoMemory = ⊥
+
+-- `check` of this proof: the formula's file was begun and read, and then one of the endings came by its cause
+pub record ChecksProof (file proof : List ℕ) (before after : Desk) (how : Ending) : Type 0 where
+  pub between : InputsTold
+  pub begun : BeginsFormula file before.inputs between
+  pub cause : CheckCause file proof before between after how
+
+-- == any words ==
+
+-- how `check` ended, by its answer
+abbrev pub checked_ending : Result Finding Ending → Ending
+checked_ending (Ok finding) = Judged finding
+checked_ending (Err how) = how
 
 -- how `solve` ended, by its answer
 abbrev pub ending_of : Result Verdict Ending → Ending
@@ -66,7 +135,9 @@ ending_of (Err how) = how
 abbrev pub RefuseCause : Ending → Type 0
 RefuseCause (Answered verdict) = ⊥
 RefuseCause Usage = Unit {0}
+RefuseCause (Judged finding) = ⊥
 RefuseCause (Unread stop) = ⊥
+RefuseCause (Unjudged stop) = ⊥
 RefuseCause (Unwritten stop) = ⊥
 RefuseCause NoMemory = Unit {0}
 
@@ -80,7 +151,13 @@ pub record GivesUp (before after : Desk) (how : Ending) : Type 0 where
   pub untouched : after ≡ before
   pub cause : how ≡ NoMemory
 
+-- a command that begins its file ended like this by its cause; other words begin nothing
+abbrev pub ServesJob : Option Job → Desk → Desk → Ending → Type 0
+ServesJob None before after how = ⊥
+ServesJob (Some (Solve file log settings)) before after how = Solves file log settings before after how
+ServesJob (Some (Check file proof)) before after how = ChecksProof file proof before after how
+
 -- a run by its job: words that are no command line are refused
 abbrev pub Serves : Option Job → Desk → Desk → Ending → Type 0
 Serves None before after how = Refuses before after how
-Serves (Some (Solve file log settings)) before after how = Solves file log settings before after how ⊎ GivesUp before after how
+Serves (Some job) before after how = ServesJob (Some job) before after how ⊎ GivesUp before after how

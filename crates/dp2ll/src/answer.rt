@@ -1,15 +1,17 @@
-ghost use Rattle.std.specs.Prelude.{◌≡◌, ◌≤◌, [], IfOk};
+ghost use Rattle.std.specs.Prelude.{◌≡◌, ◌≤◌, [], None, IfOk};
 ghost use Rattle.desk_io.specs.declared.Port.TheVariants.{Answer, Log};
 ghost use Rattle.crew.specs.Run.{AreOfOneCore};
 ghost use Rattle.crew.specs.Log.{log_text};
 ghost use Rattle.crew.specs.Outcome.{outcome_of};
-ghost use Rattle.dp2ll.specs.Answering.{Answers, AnswersPort, page_of, KeepsComplaint};
+ghost use Rattle.dp2ll.specs.Answering.{Answers, AnswersPort, WritesTexts, page_of, KeepsComplaint};
 ghost use Rattle.dp2ll.specs.Logging.{KeepsLog, log_told};
+ghost use Rattle.dp2ll.specs.Ending.{finding_text};
 ghost use Rattle.dp2ll.specs.Outcome.{answer_text};
 ghost use Rattle.dp2ll.specs.Running.{without_outcome};
 
 use crate::backing::law_verdict_is_backed;
 use crate::ending::WriteStop;
+use crate::finding::Finding;
 use crate::texts::answer_text;
 use crew::{Outcome, Verdict, run_turns};
 use desk_io::{Outputs, Port, PortFault, write_whole};
@@ -85,6 +87,18 @@ fn write_answer<O: Outputs>(
 {
     let text = answer_text(alloc, outcome)?;
     match write_whole(outputs, Port::Answer, text.as_slice()) {
+        Ok(()) => Ok(()),
+        Err(PortFault::Failed) => Err(WriteStop::AnswerFault),
+        Err(PortFault::NoMemory) => Err(WriteStop::NoMemory),
+    }
+}
+
+/// Writes what was found of a proof.
+pub(crate) fn say_finding<O: Outputs>(outputs: &mut O, finding: Finding) -> Result<(), WriteStop>
+    ensures says { WritesTexts None (finding_text finding) (finding_text finding) (page_of (O.told outputs.old)) (page_of (O.told outputs.new)) result }
+    ensures complaint { KeepsComplaint (O.told outputs.old) (O.told outputs.new) }
+{
+    match write_whole(outputs, Port::Answer, finding.line()) {
         Ok(()) => Ok(()),
         Err(PortFault::Failed) => Err(WriteStop::AnswerFault),
         Err(PortFault::NoMemory) => Err(WriteStop::NoMemory),

@@ -1,6 +1,7 @@
 ghost use Rattle.std.specs.Prelude.{◌≡◌};
-ghost use Rattle.dp2ll.specs.Ending.{verdict_status, read_status, write_status, status_of};
+ghost use Rattle.dp2ll.specs.Ending.{verdict_status, read_status, proof_status, write_status, status_of};
 
+use crate::finding::Finding;
 use cnf_text::CnfFault;
 use crew::{Stop, Verdict};
 use lit_base::NoMemory;
@@ -10,6 +11,15 @@ use lit_base::NoMemory;
 pub(crate) enum ReadStop {
     /// The file is no formula, by this fault, which is never want of memory.
     NoFormula(CnfFault),
+    /// The file could not be begun or read.
+    ReadFault,
+    /// Memory could not be had.
+    NoMemory,
+}
+
+/// Why a proof was not judged.
+#[derive(Clone, Copy, Debug, PartialEq, Eq)]
+pub(crate) enum ProofStop {
     /// The file could not be begun or read.
     ReadFault,
     /// Memory could not be had.
@@ -32,10 +42,14 @@ pub(crate) enum WriteStop {
 pub(crate) enum Ending {
     /// The run of the formula has this verdict, and its log and answer are written.
     Answered(Verdict),
+    /// This was found of the proof, and the answer says so.
+    Judged(Finding),
     /// The words are no command line.
     Usage,
     /// The file was not read as a formula.
     Unread(ReadStop),
+    /// The proof was not judged.
+    Unjudged(ProofStop),
     /// Log or answer were not written whole.
     Unwritten(WriteStop),
     /// Memory could not be had before the file was begun.
@@ -50,6 +64,28 @@ impl From<ReadStop> for Ending {
 
     fn from(stop: ReadStop) -> Ending {
         Ending::Unread(stop)
+    }
+}
+
+impl From<ProofStop> for Ending {
+    ghost use Rattle.std.specs.Prelude.{◌≡◌};
+    ghost use Rattle.dp2ll.specs.declared.ending.Ending.TheVariants.{Unjudged};
+
+    ghost from_gives = { λ stop ending. ending ≡ Unjudged stop };
+
+    fn from(stop: ProofStop) -> Ending {
+        Ending::Unjudged(stop)
+    }
+}
+
+impl From<NoMemory> for ProofStop {
+    ghost use Rattle.std.specs.Prelude.{◌≡◌};
+    ghost use Rattle.dp2ll.specs.declared.ending.ProofStop.TheVariants as proof;
+
+    ghost from_gives = { λ _ stop. stop ≡ proof.NoMemory };
+
+    fn from(_error: NoMemory) -> ProofStop {
+        ProofStop::NoMemory
     }
 }
 
@@ -102,6 +138,18 @@ impl ReadStop {
     }
 }
 
+impl ProofStop {
+    /// The exit status: 3 or 5.
+    pub(crate) fn status(self) -> u8
+        ensures { result ≡ proof_status self }
+    {
+        match self {
+            ProofStop::ReadFault => 3,
+            ProofStop::NoMemory => 5,
+        }
+    }
+}
+
 impl WriteStop {
     /// The exit status: 4 or 5.
     pub(crate) fn status(self) -> u8
@@ -132,8 +180,10 @@ impl Ending {
     {
         match self {
             Ending::Answered(verdict) => verdict_status(*verdict),
+            Ending::Judged(finding) => finding.status(),
             Ending::Usage => 1,
             Ending::Unread(stop) => stop.status(),
+            Ending::Unjudged(stop) => stop.status(),
             Ending::Unwritten(stop) => stop.status(),
             Ending::NoMemory => 5,
         }

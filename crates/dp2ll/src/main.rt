@@ -1,10 +1,13 @@
-//! dp2ll decides formulas in conjunctive normal form: `dp2ll solve FILE`.
+//! dp2ll decides formulas in conjunctive normal form, `dp2ll solve FILE`, and judges proofs that they have no model,
+//! `dp2ll check FILE PROOF`.
 #![tactic(auto)]
 
 mod answer;
 mod backing;
 mod complaint;
 mod ending;
+mod finding;
+mod judge;
 mod read;
 mod run;
 #[cfg(test)]

@@ -10,7 +10,7 @@ use lit_base::{Formula, NoMemory};
 use std::alloc::Global;
 
 /// How many bytes are asked for at a time.
-const PIECE: usize = 65_536;
+pub(crate) const PIECE: usize = 65_536;
 
 /// More turns than a formula may have bytes, each of which takes at least one.
 const MOST_TURNS: u64 = 268_435_457;
@@ -54,7 +54,7 @@ fn stop_of(fault: CnfFault) -> ReadStop
 }
 
 /// A buffer for one piece.
-fn zeros(alloc: Global) -> Result<Vec<u8>, NoMemory>
+pub(crate) fn zeros(alloc: Global) -> Result<Vec<u8>, NoMemory>
     ensures { IfOk result (λ buffer. vec_len buffer ≡ PIECE) }
 {
     Ok(vec![in alloc; 0; PIECE]?)

@@ -1,19 +1,22 @@
 ghost use Rattle.std.specs.Prelude.{map, string_bytes};
 ghost use Rattle.crew.specs.Run.{AreOfOneCore};
 ghost use Rattle.dp2ll.specs.Answering.{KeepsComplaint};
-ghost use Rattle.dp2ll.specs.Serving.{Solves, Serves, desk, ending_of};
+ghost use Rattle.dp2ll.specs.Serving.{Solves, ChecksProof, Serves, desk, ending_of, checked_ending};
 ghost use Rattle.dp2ll.specs.Headline.{run_of, Headline, Sentences};
 ghost use Rattle.dp2ll.specs.Job.{job_of};
 
-use crate::answer::answer;
+use crate::answer::{answer, say_finding};
 use crate::complaint::complain;
 use crate::ending::Ending;
+use crate::finding::Finding;
+use crate::judge::judge_file;
 use crate::read::read_formula;
 use crate::words::{Job, WordFault, read_words};
 use cnf_text::{early_fault_stays, end_ends_input};
 use crew::Verdict;
 use desk_io::{Gate, Inputs, Outputs};
-use lit_base::Text;
+use lrat_check::law_fault_refuses;
+use lit_base::{Text, law_checked_proof_refutes};
 use solo_core::Settings;
 use std::alloc::Global;
 use std::sync::Wait;
@@ -40,10 +43,11 @@ pub fn run<R: Threads + Wait + Sync, I: Inputs, O: Outputs, G: Gate>(
 
 /// Runs the program on the words after its name, and gives its exit status; it waits for nobody.
 ///
-/// Status 10: a model was printed. 20: there is none, and the proof was written where a log is
-/// named. 0: unknown, since each core had all conflicts that it may have. 1: the words are no
-/// command line. 2: the file is no formula. 3: it could not be read. 4: log or answer could not be
-/// written. 5: memory could not be had.
+/// `solve` gives status 10: a model was printed; 20: there is none, and the proof was written where a
+/// log is named; 0: unknown, since each core had all conflicts that it may have. `check` gives 0: the
+/// proof checks; 6: it doesn't. Any words give 1: they are no command line; 2: the file is no
+/// formula; 3: it, or the proof, could not be read; 4: log or answer could not be written; 5: memory
+/// could not be had.
 pub fn run_still<I: Inputs, O: Outputs>(
     alloc: Global,
     words: &[String],
@@ -55,6 +59,7 @@ pub fn run_still<I: Inputs, O: Outputs>(
 {
     early_fault_stays();
     end_ends_input();
+    law_fault_refuses();
     let ending = serve(alloc, words, inputs, outputs);
     complain(alloc, outputs, &ending)
 }
@@ -81,6 +86,12 @@ fn serve<I: Inputs, O: Outputs>(
             Ok(verdict) => Ending::Answered(verdict),
             Err(ending) => ending,
         },
+        Ok(Job::Check { file, proof }) => {
+            match check(alloc, file.as_str(), proof.as_str(), inputs, outputs) {
+                Ok(finding) => Ending::Judged(finding),
+                Err(ending) => ending,
+            }
+        }
         Err(WordFault::Usage) => Ending::Usage,
         Err(WordFault::NoMemory) => Ending::NoMemory,
     }
@@ -102,4 +113,23 @@ fn solve<I: Inputs, O: Outputs>(
 {
     let formula = read_formula(alloc, file, inputs)?;
     Ok(answer(alloc, &formula, settings, log, outputs)?)
+}
+
+/// Reads the file as a formula, judges the proof in the other file, and writes what it found.
+fn check<I: Inputs, O: Outputs>(
+    alloc: Global,
+    file: &str,
+    proof: &str,
+    inputs: &mut I,
+    outputs: &mut O,
+) -> Result<Finding, Ending>
+    ensures checks { ChecksProof file.now proof.now (desk (I.told inputs.old) (O.told outputs.old))
+        (desk (I.told inputs.new) (O.told outputs.new)) (checked_ending result) }
+    ensures complaint { KeepsComplaint (O.told outputs.old) (O.told outputs.new) }
+{
+    law_checked_proof_refutes();
+    let formula = read_formula(alloc, file, inputs)?;
+    let finding = judge_file(alloc, &formula, proof, inputs)?;
+    say_finding(outputs, finding)?;
+    Ok(finding)
 }

@@ -9,6 +9,8 @@ use std::sync::Wait;
 use std::test::Fail;
 use std::thread::Threads;
 
+mod check;
+
 /// How many bytes a call reads or writes at most.
 const GRAINS: [usize; 4] = [1, 2, 3, 4096];
 
@@ -34,10 +36,11 @@ struct Case {
     stop: usize,
 }
 
-/// The number of the call that is to fail on the formula's slot and on each port; 0 for none.
+/// The number of the call that is to fail on each slot and on each port; 0 for none.
 #[derive(Clone, Copy)]
 struct Failing {
     formula: u64,
+    proof: u64,
     log: u64,
     answer: u64,
     complaint: u64,
@@ -45,6 +48,7 @@ struct Failing {
 
 const NONE: Failing = Failing {
     formula: 0,
+    proof: 0,
     log: 0,
     answer: 0,
     complaint: 0,
@@ -137,9 +141,29 @@ fn run_on<R: Threads + Wait + Sync>(
     grain: usize,
     failing: Failing,
 ) -> Result<Left, Fail> {
+    run_over(rt, alloc, words, &[("f", text)], grain, failing)
+}
+
+/// Runs the words over files of these names and bytes.
+fn run_over<R: Threads + Wait + Sync>(
+    rt: &R,
+    alloc: Global,
+    words: &[&str],
+    held: &[(&str, &[u8])],
+    grain: usize,
+    failing: Failing,
+) -> Result<Left, Fail> {
     let mut files = List::new(alloc);
-    files.push((List::of(alloc, b"f")?, List::of(alloc, text)?))?;
-    let reads = failing_at(alloc, &[(Slot::Formula, failing.formula)])?;
+    for file in held {
+        files.push((List::of(alloc, file.0.as_bytes())?, List::of(alloc, file.1)?))?;
+    }
+    let reads = failing_at(
+        alloc,
+        &[
+            (Slot::Formula, failing.formula),
+            (Slot::Proof, failing.proof),
+        ],
+    )?;
     let writes = failing_at(
         alloc,
         &[
@@ -520,6 +544,7 @@ const CLASHING: &[u8] = b"p cnf 1 2\n1 0\n-1 0\n";
 /// The first call on each that isn't the complaint port.
 const ALL: Failing = Failing {
     formula: 1,
+    proof: 1,
     log: 1,
     answer: 1,
     complaint: 0,
@@ -618,7 +643,7 @@ static REFUSALS: [Refusal; 7] = [
 ];
 
 /// Words that are no command line.
-static FAULTY: [&[&str]; 26] = [
+static FAULTY: [&[&str]; 30] = [
     &[],
     &["solve"],
     &["solve", ""],
@@ -644,6 +669,10 @@ static FAULTY: [&[&str]; 26] = [
     &["solve", "f", "g"],
     &["Solve", "f"],
     &["check", "f"],
+    &["check", "f", "-p"],
+    &["check", "", "p"],
+    &["check", "f", "p", "q"],
+    &["check", "f", "p", "--limit", "1"],
     &["gen", "tower", "3"],
 ];
 

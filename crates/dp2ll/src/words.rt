@@ -1,6 +1,6 @@
 ghost use Rattle.std.specs.Prelude.{◌≡◌, ◌≤◌, ◌&&◌, ◌||◌, map, string_bytes, bytes_eq, codes, option_map, IfSome, IfOk};
 ghost use Rattle.crew.specs.Run.{AreOfOneCore};
-ghost use Rattle.dp2ll.specs.Job.{job_of, solve_of, settings_of, is_number, number_of, number_or, number_under, is_file_word, is_option, are_options, values_under, once, IsInRange, ReadsWords};
+ghost use Rattle.dp2ll.specs.Job.{job_of, solve_of, check_of, settings_of, is_number, number_of, number_or, number_under, is_file_word, is_option, are_options, values_under, once, IsInRange, ReadsWords};
 
 use lit_base::{NoMemory, Text, is_digits};
 use solo_core::Settings;
@@ -19,6 +19,8 @@ pub enum Job {
         log: Option<Text>,
         settings: Settings,
     },
+    /// `check FILE PROOF`: judge the proof in the second file against the formula in the first.
+    Check { file: Text, proof: Text },
 }
 
 /// Why words gave no job.
@@ -41,8 +43,9 @@ impl From<NoMemory> for WordFault {
     }
 }
 
-/// The job that the words after the program's name ask for: `solve`, one file word, and then options in any order, each at
-/// most once: `--cores` 1, `--limit` from 1 to 1,000,000,000 (10,000,000 without it), and `--log` with a file word.
+/// The job that the words after the program's name ask for: `check` and two file words, or `solve`, one file word, and then
+/// options in any order, each at most once: `--cores` 1, `--limit` from 1 to 1,000,000,000 (10,000,000 without it), and
+/// `--log` with a file word.
 ///
 /// A file word is not empty and does not begin with `-`; a number is 1 to 20 digits.
 pub fn read_words(alloc: Global, words: &[String]) -> Result<Job, WordFault>
@@ -51,6 +54,7 @@ pub fn read_words(alloc: Global, words: &[String]) -> Result<Job, WordFault>
 {
     match words {
         [command, arguments @ ..] if command.as_str() == "solve" => read_solve(alloc, arguments),
+        [command, arguments @ ..] if command.as_str() == "check" => read_check(alloc, arguments),
         _ => Err(WordFault::Usage),
     }
 }
@@ -81,6 +85,22 @@ fn read_solve(alloc: Global, arguments: &[String]) -> Result<Job, WordFault>
         log,
         settings,
     })
+}
+
+/// The job of `check` with these arguments.
+fn read_check(alloc: Global, arguments: &[String]) -> Result<Job, WordFault>
+    ensures job { ReadsWords (check_of (map string_bytes arguments.now)) result }
+    ensures range { IfOk result IsInRange }
+{
+    match arguments {
+        [file, proof] if is_file_word(file.as_str()) && is_file_word(proof.as_str()) => {
+            Ok(Job::Check {
+                file: Text::of(alloc, file.as_str())?,
+                proof: Text::of(alloc, proof.as_str())?,
+            })
+        }
+        _ => Err(WordFault::Usage),
+    }
 }
 
 /// The settings that options give, where their numbers are in their ranges.

@@ -246,3 +246,8 @@ pub ended_err : (before : ReaderState) (bytes : List ℕ) (lines : List Line) (f
 ended_err before bytes lines fault has owes =
     OnFault-weaker fault (step before.scan 10 ≡ Err fault) (proof_steps bytes ≡ record { lines = lines; fault = Some fault })
     (λ is. whole_is before bytes lines (Err fault) has is ∙ ap (λ (ls : List Line). let t : Steps = record { lines = ls; fault = Some fault } in t) (append-nil lines)) owes
+
+-- a reader has read no more than it may
+pub has_read_few : (reader : ReaderState) (bytes : List ℕ) (lines : List Line) → HasRead reader bytes lines → length bytes ≤ 1099511627776
+unfolding HasRead
+has_read_few reader bytes lines read = read.few

@@ -22,6 +22,10 @@ abbrev pub ReadBytesAreSound : Type 0
 ReadBytesAreSound = (reader : ReaderState) (bytes : List ℕ) (lines : List Line) → HasRead reader bytes lines
     → early_steps bytes ≡ record { lines = lines; fault = None }
 
+-- what a reader has read is within the limit of bytes
+abbrev pub ReadBytesAreFew : Type 0
+ReadBytesAreFew = (reader : ReaderState) (bytes : List ℕ) (lines : List Line) → HasRead reader bytes lines → length bytes ≤ 1099511627776
+
 -- what is written as a log is read as its lemmas, where it is within the limit of bytes
 abbrev pub WrittenIsRead : Type 0
 WrittenIsRead = (lemmas : List NumberedLemma) → All CanBeWritten lemmas → length (log_of lemmas) ≤ 1099511627776

@@ -4,7 +4,7 @@ ghost use Rattle.lit_base.specs.Examples.{half, deletion};
 ghost use Rattle.lrat_text.specs.declared.fault.LineFault.TheVariants.{BadToken, Unclosed, RatHint};
 ghost use Rattle.lrat_text.specs.Reading.{proof_steps, early_steps, no_steps};
 ghost use Rattle.lrat_text.specs.Examples.{without_fault, up_to, two_lemmas, two_additions, odd_lines, odd_steps};
-ghost use Rattle.lrat_text.specs.Laws.{EarlyFaultStays, EndedLinesStay, ReadBytesAreSound, WrittenIsRead};
+ghost use Rattle.lrat_text.specs.Laws.{EarlyFaultStays, EndedLinesStay, ReadBytesAreSound, ReadBytesAreFew, WrittenIsRead};
 
 /// A fault that stands before the end stands at the end too, whatever follows, behind the same lines.
 pub fn early_fault_stays()
@@ -19,6 +19,11 @@ pub fn ended_lines_stay()
 /// The bytes that a reader has read have no fault so far, and it has handed out just the lines that have ended.
 pub fn read_bytes_are_sound()
     ensures { ReadBytesAreSound }
+{}
+
+/// The bytes that a reader has read are within the limit.
+pub fn read_bytes_are_few()
+    ensures { ReadBytesAreFew }
 {}
 
 /// The text of any log within the limits is read as its lemmas, line by line.

@@ -12,8 +12,8 @@
 
 pub use fault::LineFault;
 pub use laws::{
-    early_fault_stays, ended_lines_stay, read_bytes_are_sound, small_proofs_are_read,
-    written_is_read,
+    early_fault_stays, ended_lines_stay, read_bytes_are_few, read_bytes_are_sound,
+    small_proofs_are_read, written_is_read,
 };
 pub use lit_base::{Line, LineStep};
 pub use reader::LineReader;

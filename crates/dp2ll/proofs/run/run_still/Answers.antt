@@ -4,4 +4,4 @@ use Rattle.dp2ll.proofs.run.run_still.Goals as goal
 
 -- the sentences follow from the record
 pub returns-clause-sentences : goal.returns-clause-sentences
-returns-clause-sentences g c = sentences_of c.early_fault_stays.ensures c.end_ends_input.ensures _ (search rules)
+returns-clause-sentences g c = sentences_of c.early_fault_stays.ensures c.end_ends_input.ensures c.law_fault_refuses.ensures _ (search rules)
