@@ -5,7 +5,8 @@ use Rattle.std.proofs.lemmas.Bool.{eqb-false, cases_lt}
 use Rattle.std.proofs.lemmas.List.{length-append}
 use Rattle.lit_base.specs.Literal.{Literal}
 use Rattle.lrat_check.specs.declared.table.Span.{Span}
-use Rattle.lrat_check.specs.Table.{part_of, part_at, first_of}
+use Rattle.lrat_check.specs.declared.table.ShortSpan.{ShortSpan}
+use Rattle.lrat_check.specs.Table.{long, part_of, part_at, first_of}
 use Rattle.lrat_check.specs.Clauses.{lits_in, IsPart}
 use Rattle.lrat_check.specs.Packing.{IsMoved, Grows}
 use Rattle.lrat_check.proofs.Spans.{part_set, part_past}
@@ -43,25 +44,25 @@ all_kept literals one two packed after array array_after map map_after first sec
     (subst (λ xs. IsMoved xs after map map_after) second moved_next)
 
 -- one part more of an array is moved
-pub done_more : (literals packed after : List Literal) (before spans : List Span) (place : ℕ) (new : Span) → place < length spans → Grows packed after →
+pub done_more : (literals packed after : List Literal) (before spans : List ShortSpan) (place : ℕ) (new : ShortSpan) → place < length spans → Grows packed after →
     ((n : ℕ) → n < place → IsMoved literals packed (part_at before n) (part_at spans n)) → part_at spans place ≡ part_at before place →
-    IsMoved literals after (part_at spans place) (part_of (Some new)) → (n : ℕ) → n < place + 1 → IsMoved literals after (part_at before n) (part_at (set spans place new) n)
+    IsMoved literals after (part_at spans place) (part_of (Some (long new))) → (n : ℕ) → n < place + 1 → IsMoved literals after (part_at before n) (part_at (set spans place new) n)
 done_more literals packed after before spans place new within grows done same moved n below =
     subst (IsMoved literals after (part_at before n)) (sym (part_set spans place new within n)) (by_place (place == n) refl)
   where
-    by_place : (b : Bool) → (place == n) ≡ b → IsMoved literals after (part_at before n) (cond b (part_of (Some new)) (part_at spans n))
-    by_place true is = subst (λ k. IsMoved literals after (part_at before k) (part_of (Some new))) (eqb-true place n is) (subst (λ o. IsMoved literals after o (part_of (Some new))) same moved)
+    by_place : (b : Bool) → (place == n) ≡ b → IsMoved literals after (part_at before n) (cond b (part_of (Some (long new))) (part_at spans n))
+    by_place true is = subst (λ k. IsMoved literals after (part_at before k) (part_of (Some (long new)))) (eqb-true place n is) (subst (λ o. IsMoved literals after o (part_of (Some (long new)))) same moved)
     by_place false other =
         moved_stays literals packed after (part_at before n) (part_at spans n) grows (done n (let apart : place ≢ n = eqb-false place n other in omega (arith, below, apart)))
 
 -- those behind it are as they were
-pub left_more : (before spans : List Span) (place : ℕ) (new : Span) → place < length spans → ((n : ℕ) → place ≤ n → part_at spans n ≡ part_at before n) →
+pub left_more : (before spans : List ShortSpan) (place : ℕ) (new : ShortSpan) → place < length spans → ((n : ℕ) → place ≤ n → part_at spans n ≡ part_at before n) →
     (n : ℕ) → place + 1 ≤ n → part_at (set spans place new) n ≡ part_at before n
 left_more before spans place new within left n behind =
-    part_set spans place new within n ∙ (ap (λ b. cond b (part_of (Some new)) (part_at spans n)) (ne_eqb place n (λ e. let same : place ≡ n = e in omega (arith, same, behind))) ∙ left n (omega arith))
+    part_set spans place new within n ∙ (ap (λ b. cond b (part_of (Some (long new))) (part_at spans n)) (ne_eqb place n (λ e. let same : place ≡ n = e in omega (arith, same, behind))) ∙ left n (omega arith))
 
 -- all parts of an array are moved
-pub all_moved : (literals packed : List Literal) (before spans : List Span) (place n : ℕ) → length spans ≡ length before → length before ≤ place →
+pub all_moved : (literals packed : List Literal) (before spans : List ShortSpan) (place n : ℕ) → length spans ≡ length before → length before ≤ place →
     ((k : ℕ) → k < place → IsMoved literals packed (part_at before k) (part_at spans k)) → IsMoved literals packed (part_at before n) (part_at spans n)
 all_moved literals packed before spans place n size all done = elim (cases_lt n place) [
   | inl below ↦ done n below

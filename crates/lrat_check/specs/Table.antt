@@ -1,8 +1,9 @@
 -- Where the literals of clauses stand in the arena, by id.
-use Rattle.std.specs.Prelude.{ℕ, nat_le, List, Option, Some, None, slice_get, if◌then◌else◌}
+use Rattle.std.specs.Prelude.{ℕ, nat_le, List, Option, Some, None, slice_get, option_map, if◌then◌else◌}
 use Rattle.std.specs.Ordering.{nat_cmp}
 use Rattle.std.specs.BTreeMap.{get}
 use Rattle.lrat_check.specs.declared.table.Span.{Span}
+use Rattle.lrat_check.specs.declared.table.ShortSpan.{ShortSpan}
 use Rattle.lrat_check.specs.declared.table.Table.{Table}
 
 -- the part that a span stands for: none where it ends before it begins
@@ -10,9 +11,13 @@ abbrev pub part_of : Option Span → Option Span
 part_of None = None
 part_of (Some s) = if nat_le s.from s.to then Some s else None
 
+-- a short span in full
+abbrev pub long : ShortSpan → Span
+long s = record { from = s.from; to = s.to }
+
 -- the part of an id in the array
-abbrev pub part_at : List Span → ℕ → Option Span
-part_at spans id = part_of (slice_get spans id)
+abbrev pub part_at : List ShortSpan → ℕ → Option Span
+part_at spans id = part_of (option_map long (slice_get spans id))
 
 -- the first of two, where it is there
 abbrev pub first_of : Option Span → Option Span → Option Span

@@ -6,7 +6,7 @@ use crate::table::{Span, Table};
 use lit_base::{Lit, NoMemory};
 use std::alloc::Global;
 
-/// So many places the table's array may have whatever comes, and so many for each clause that was ever put in: at most 128
+/// So many places the table's array may have whatever comes, and so many for each clause that was ever put in: at most 64
 /// bytes for each. Proofs that were trimmed leave many ids out.
 const FIRST_PLACES: u64 = 4096;
 

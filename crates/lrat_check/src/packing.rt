@@ -1,11 +1,11 @@
 ghost use Rattle.std.specs.Prelude.{◌≡◌, ℕ, Some, IfOk, OnOk};
 ghost use Rattle.std.specs.Ordering.{nat_cmp};
 ghost use Rattle.std.specs.BTreeMap.{get};
-ghost use Rattle.lrat_check.specs.Table.{part_of, part_at};
+ghost use Rattle.lrat_check.specs.Table.{long, part_of, part_at};
 ghost use Rattle.lrat_check.specs.Packing.{IsMoved, Grows};
 
 use crate::clauses::{part, put_literals};
-use crate::table::Span;
+use crate::table::{ShortSpan, Span};
 use lit_base::{Lit, NoMemory};
 use std::alloc::Global;
 use std::collections::BTreeMap;
@@ -13,13 +13,13 @@ use std::collections::BTreeMap;
 /// Moves the literals of the parts of an array behind those of a packed arena.
 pub(crate) fn pack_spans(
     literals: &[Lit],
-    spans: &mut Vec<Span>,
+    spans: &mut Vec<ShortSpan>,
     packed: &mut Vec<Lit>,
 ) -> Result<(), NoMemory>
     ensures { OnOk result ((n : ℕ) → IsMoved literals.now packed.new.items (part_at spans.old.items n) (part_at spans.new.items n)) }
 {
     for place in 0..spans.len() {
-        spans[place] = move_part(literals, spans[place], packed)?;
+        spans[place] = move_short(literals, spans[place], packed)?;
     }
     Ok(())
 }
@@ -40,6 +40,25 @@ pub(crate) fn pack_leaps(
     }
     *leaps = moved;
     Ok(())
+}
+
+/// Moves the literals of a part that has a short span.
+///
+/// The parts of the array stand apart and below 2^32, and are packed first: so each fits again, and `NoMemory` comes only
+/// for want of memory.
+fn move_short(
+    literals: &[Lit],
+    short: ShortSpan,
+    packed: &mut Vec<Lit>,
+) -> Result<ShortSpan, NoMemory>
+    ensures moved { IfOk result (λ new. IsMoved literals.now packed.new.items (part_of (Some (long short))) (part_of (Some (long new)))) }
+    ensures grown { OnOk result (Grows packed.old.items packed.new.items) }
+{
+    let moved = move_part(literals, short.long(), packed)?;
+    match ShortSpan::of(moved) {
+        Some(new) => Ok(new),
+        None => Err(NoMemory),
+    }
 }
 
 /// Moves the literals of a part behind those of a packed arena, and answers where they are there.

@@ -1,5 +1,5 @@
-ghost use Rattle.std.specs.Prelude.{◌≡◌, ℕ, ◌≤◌, ◌==◌, Some, None, IfOk, OnOk, if◌then◌else◌};
-ghost use Rattle.lrat_check.specs.Table.{part_of, part_at, span_at};
+ghost use Rattle.std.specs.Prelude.{◌≡◌, ℕ, ◌≤◌, ◌==◌, Some, None, IfSome, OnOk, if◌then◌else◌};
+ghost use Rattle.lrat_check.specs.Table.{long, part_of, part_at, span_at};
 
 use lit_base::NoMemory;
 use std::alloc::Global;
@@ -17,13 +17,47 @@ impl Span {
     pub(crate) const NONE: Span = Span { from: 1, to: 0 };
 }
 
+/// A span in half the bytes, where its places are below 2^32.
+#[derive(Clone, Copy, Debug)]
+pub(crate) struct ShortSpan {
+    from: u32,
+    to: u32,
+}
+
+impl ShortSpan {
+    /// Stands for no part.
+    const NONE: ShortSpan = ShortSpan { from: 1, to: 0 };
+
+    /// The span, where it fits.
+    pub(crate) fn of(span: Span) -> Option<ShortSpan>
+        ensures { IfSome result (λ short. long short ≡ span) }
+    {
+        match (u32::try_from(span.from), u32::try_from(span.to)) {
+            (Ok(from), Ok(to)) => Some(ShortSpan { from, to }),
+            _ => None,
+        }
+    }
+
+    /// The span in full.
+    #[inline(always)]
+    pub(crate) fn long(self) -> Span
+        ensures { result ≡ long self }
+    {
+        Span {
+            from: self.from as usize,
+            to: self.to as usize,
+        }
+    }
+}
+
 /// The parts of the arena by id.
 ///
 /// An id that isn't far above the number of clauses is a place in an array. The few others, which leap, are kept in a
-/// tree by their order, so that memory follows the number of clauses and never an id, and no file can aim at a bucket.
+/// tree by their order, so that memory follows the number of clauses and never an id, and no file can aim at a bucket. The
+/// tree also has the parts that don't fit into a short span.
 #[derive(Debug, Drop)]
 pub(crate) struct Table {
-    pub(crate) spans: Vec<Span>,
+    pub(crate) spans: Vec<ShortSpan>,
     pub(crate) leaps: BTreeMap<u64, Span>,
 }
 
@@ -49,17 +83,17 @@ impl Table {
         }
     }
 
-    /// Puts a part under an id, in an array of so many places where the id is one. After `NoMemory` nothing is said of the
-    /// table.
+    /// Puts a part under an id, in the array where the id is below `places`. After `NoMemory` nothing is said of the table.
     pub(crate) fn put(&mut self, id: u64, span: Span, places: u64) -> Result<(), NoMemory>
         requires { span.from ≤ span.to }
         ensures { OnOk result ((n : ℕ) → span_at self.new n ≡ (if id == n then Some span else span_at self.old n)) }
     {
-        let places = places.max(self.spans.len() as u64);
-        if id < places {
-            put_at(&mut self.spans, id as usize, span)?;
-        } else {
-            self.leaps.insert(id, span)?;
+        match ShortSpan::of(span) {
+            Some(short) if id < places => put_at(&mut self.spans, id as usize, short)?,
+            _ => {
+                clear_at(&mut self.spans, id);
+                self.leaps.insert(id, span)?;
+            }
         }
         Ok(())
     }
@@ -86,32 +120,35 @@ fn part_of(span: Option<Span>) -> Option<Span>
 
 /// The part of an id in the array.
 #[inline(always)]
-fn part_at(spans: &[Span], id: u64) -> Option<Span>
+fn part_at(spans: &[ShortSpan], id: u64) -> Option<Span>
     ensures { result ≡ part_at spans.now id }
 {
-    part_of(spans.get(id as usize).copied())
+    match spans.get(id as usize) {
+        Some(short) => part_of(Some(short.long())),
+        None => None,
+    }
 }
 
 /// Puts a part at a place of the array, which grows where it ends before.
-fn put_at(spans: &mut Vec<Span>, place: usize, span: Span) -> Result<(), NoMemory>
-    requires { span.from ≤ span.to }
-    ensures { OnOk result ((n : ℕ) → part_at spans.new.items n ≡ (if place == n then Some span else part_at spans.old.items n)) }
+fn put_at(spans: &mut Vec<ShortSpan>, place: usize, short: ShortSpan) -> Result<(), NoMemory>
+    requires { short.from ≤ short.to }
+    ensures { OnOk result ((n : ℕ) → part_at spans.new.items n ≡ (if place == n then Some (long short) else part_at spans.old.items n)) }
 {
     if place < spans.len() {
-        spans[place] = span;
+        spans[place] = short;
     } else {
-        spans.resize(place, Span::NONE)?;
-        spans.push(span)?;
+        spans.resize(place, ShortSpan::NONE)?;
+        spans.push(short)?;
     }
     Ok(())
 }
 
 /// Takes the part of an id out of the array.
-fn clear_at(spans: &mut Vec<Span>, id: u64)
+fn clear_at(spans: &mut Vec<ShortSpan>, id: u64)
     ensures { (n : ℕ) → part_at spans.new.items n ≡ (if id == n then None else part_at spans.old.items n) }
 {
     let place = id as usize;
     if place < spans.len() {
-        spans[place] = Span::NONE;
+        spans[place] = ShortSpan::NONE;
     }
 }
