@@ -1,5 +1,5 @@
 -- The log of a run and then its answer.
-use Rattle.std.proofs.Common.{◌≡◌, ◌⊎◌, ℕ, List, ◌∙◌, sym, ap, inl, inr, Option, Ok, Err}
+use Rattle.std.proofs.Common.{◌≡◌, ℕ, List, sym, inl, inr, Option, Ok, Err}
 use Rattle.desk_io.specs.Outputs.{GrowsByFront}
 use Rattle.dp2ll.specs.declared.ending.WriteStop.{WriteStop}
 use Rattle.dp2ll.specs.declared.ending.WriteStop.TheVariants.{LogFault, AnswerFault, NoMemory}

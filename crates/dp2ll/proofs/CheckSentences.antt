@@ -1,8 +1,7 @@
 -- The sentences of `check`, from the record of a run.
-use Rattle.std.proofs.Common.{◌≡◌, ◌⊎◌, ℕ, List, [], ◌++◌, Bool, true, false, if◌then◌else◌, inl, inr, sym, ap, ◌∙◌, arith, refl, append-nil, Option, Some, None, Ok, Err}
+use Rattle.std.proofs.Common.{◌≡◌, ◌⊎◌, ℕ, List, ◌++◌, inl, inr, sym, ap, ◌∙◌, arith, refl, Option, Some, None, Ok, Err}
 use Rattle.std.specs.Io.KnownBytes.{prepend_known, IsAtEnd}
 use Rattle.lit_base.specs.Cnf.{Cnf}
-use Rattle.lit_base.specs.Judgement.{checks, Checks}
 use Rattle.desk_io.specs.Told.{InputsTold, Rose}
 use Rattle.desk_io.specs.declared.Slot.TheVariants.{Formula, Proof}
 use Rattle.desk_io.specs.declared.Port.TheVariants.{Complaint}
@@ -28,7 +27,7 @@ use Rattle.dp2ll.specs.Complaint.{Tells, Complains}
 use Rattle.dp2ll.specs.Reading.{bytes_taken}
 use Rattle.dp2ll.specs.Judging.{IsFlaw, IsFinding, IsJudged, StopsJudging}
 use Rattle.dp2ll.specs.Answering.{CutsTexts}
-use Rattle.dp2ll.specs.Serving.{Desk, FindsProof, ChecksProof, CheckCause, IsUnchecked, IsUnjudged, IsUnsaid, ServesJob, Serves}
+use Rattle.dp2ll.specs.Serving.{Desk, FindsProof, ChecksProof, IsUnchecked, ServesJob, Serves}
 use Rattle.dp2ll.specs.Headline.{Run, Headline, IsToldFormula, desk_before, desk_after, OnCheck, IsCheck, EndsBy, IsChecked, OnToldProof, SaysVerified, SaysFlaw, IsCalmCheck, AnswersProof, AnswersCheck, IsCompleteCheck, CheckSentences}
 use Rattle.dp2ll.proofs.Statuses.{at_zero, at_six}
 use Rattle.dp2ll.proofs.Whole.{KnowsReading, all_taken, some_taken, read_told, refused_told}
@@ -103,7 +102,7 @@ flawed_of : KnowsReading → FaultRefuses → (run : Run) (flaw : Flaw) → Tell
 flawed_of laws refuses run flaw tells file proof served =
     let finds = served.cause.finds in
     let found : OnToldProof run proof (λ steps. IsFlaw finds.cnf steps flaw) =
-        λ bytes told. told_finding finds.cnf (run.inputs_before.held Proof proof) (run.inputs_after.at Proof).left (Flawed flaw) bytes told finds.found in
+    λ bytes told. told_finding finds.cnf (run.inputs_before.held Proof proof) (run.inputs_after.at Proof).left (Flawed flaw) bytes told finds.found in
     record {
       cnf = finds.cnf;
       flaw = flaw;
@@ -163,7 +162,7 @@ check_answers laws refuses run file bytes proof (Judged finding) status told cal
     let finds = served.cause.finds in
     rw (told_formula laws run file proof served.between finding finds bytes told)
     (λ fine other is. finding_decides refuses run finds.cnf (proof_steps other) finding status
-        (told_finding finds.cnf (run.inputs_before.held Proof proof) (run.inputs_after.at Proof).left finding other is finds.found))
+    (told_finding finds.cnf (run.inputs_before.held Proof proof) (run.inputs_after.at Proof).left finding other is finds.found))
 check_answers laws refuses run file bytes proof Usage status told calm tells served = absurd served.cause
 check_answers laws refuses run file bytes proof (Unread stop) status told calm tells served =
     calm_read laws run file bytes proof served.between stop status told calm tells served.cause
@@ -171,7 +170,7 @@ check_answers laws refuses run file bytes proof (Unjudged stop) status told calm
     let cause = served.cause in
     rw (read_told laws.ends bytes (run.inputs_before.held Formula file) (served.between.at Formula).left cause.cnf told cause.begins.read)
     (λ fine other is. calm_judging run cause.cnf (proof_steps other) (run.inputs_before.held Proof proof) served.between stop status
-        served.begun.others fine cause.stops)
+    served.begun.others fine cause.stops)
 check_answers laws refuses run file bytes proof (Unwritten stop) status told calm tells served =
     let cause = served.cause in
     rw (told_formula laws run file proof served.between cause.finding cause.finds bytes told)

@@ -1,6 +1,5 @@
 -- A told file decides the answer, where no call failed and memory was found.
 use Rattle.std.proofs.Common.{◌≡◌, ℕ, List, inl, inr, refl, ap, ◌∙◌, Option, Some, None, Ok, Err}
-use Rattle.lit_base.specs.Cnf.{Cnf}
 use Rattle.solo_core.specs.declared.sheet.Settings.{Settings}
 use Rattle.crew.specs.Log.{log_text}
 use Rattle.crew.specs.Outcome.{outcome_of}

@@ -1,11 +1,9 @@
 -- How a run ended, by its status.
-use Rattle.std.proofs.Common.{◌≡◌, ◌⊎◌, ℕ, List, inl, inr, sym, subst, ◌∙◌, arith, Option, Some, None}
+use Rattle.std.proofs.Common.{◌≡◌, ℕ, List, inl, inr, sym, subst, ◌∙◌, Option, Some, None}
 use Rattle.desk_io.specs.Told.{PortTold}
 use Rattle.desk_io.specs.declared.Port.TheVariants.{Complaint}
 use Rattle.dp2ll.specs.declared.words.Job.{Job}
-use Rattle.dp2ll.specs.declared.words.Job.TheVariants.{Solve, Check}
 use Rattle.dp2ll.specs.declared.ending.Ending.{Ending}
-use Rattle.dp2ll.specs.declared.ending.Ending.TheVariants.{Answered, Judged, Usage, Unread, Unjudged, Unwritten, NoMemory}
 use Rattle.dp2ll.specs.Ending.{status_of, complaint_of}
 use Rattle.dp2ll.specs.Complaint.{Tells, Complains}
 use Rattle.dp2ll.specs.Serving.{Desk, RefuseCause, ServesJob, Serves}

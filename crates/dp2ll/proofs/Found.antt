@@ -1,7 +1,7 @@
 -- What is found of a front of a proof stays, whatever follows.
-use Rattle.std.proofs.Common.{◌≡◌, ◌||◌, ◌&&◌, cond, ℕ, List, [], ◌∷◌, ◌++◌, Bool, true, false, refl, ap, sym, ◌∙◌, append_assoc, take-append-drop, take, drop, Option, Some, None, Ok, Err}
-use Rattle.std.specs.Prelude.{is_ok, IsOk}
-use Rattle.std.proofs.lemmas.Bool.{and_from, or_left, or_parts}
+use Rattle.std.proofs.Common.{◌≡◌, ◌||◌, ◌&&◌, cond, ℕ, List, [], ◌∷◌, ◌++◌, Bool, true, false, refl, ap, sym, ◌∙◌, append_assoc, take-append-drop, take, drop, Option, Some, None, Ok}
+use Rattle.std.specs.Prelude.{is_ok}
+use Rattle.std.proofs.lemmas.Bool.{and_from, or_left}
 use Rattle.std.proofs.lemmas.List.Folds.{list_any-append}
 use Rattle.lit_base.specs.Cnf.{Cnf}
 use Rattle.lit_base.specs.Judgement.{judge, adds_empty, add_empty, up_to_empty, checks, Checks}
@@ -14,7 +14,6 @@ use Rattle.lrat_text.specs.State.{ReaderState}
 use Rattle.lrat_text.specs.Reading.{Steps, early_steps, early_proof_fault, proof_steps}
 use Rattle.lrat_text.specs.Reader.{HasRead}
 use Rattle.lrat_text.specs.Laws.{EarlyFaultStays, EndedLinesStay, ReadBytesAreSound}
-use Rattle.lrat_check.specs.declared.fault.CheckFault.{CheckFault}
 use Rattle.lrat_check.specs.declared.checker.Checker.{Checker}
 use Rattle.lrat_check.specs.Checking.{HasJudged}
 use Rattle.lrat_check.specs.Laws.{JudgedLinesAreSound, FaultRefuses}
@@ -22,7 +21,7 @@ use Rattle.dp2ll.specs.declared.finding.Flaw.{Flaw}
 use Rattle.dp2ll.specs.declared.finding.Flaw.TheVariants.{Misread, Misjudged, NoEmptyClause}
 use Rattle.dp2ll.specs.declared.finding.Finding.{Finding}
 use Rattle.dp2ll.specs.declared.finding.Finding.TheVariants.{Verified, Flawed}
-use Rattle.dp2ll.specs.Judging.{FailsLine, IsMisread, IsMisjudged, IsFlaw, IsFinding, FindsEarly, FindsLine, FindsByFault, IsJudging, PassesLine, JudgesLine, JudgesNext, IsOfProof}
+use Rattle.dp2ll.specs.Judging.{IsFlaw, IsFinding, FindsEarly, FindsLine, FindsByFault, JudgesLine, JudgesNext, IsOfProof}
 
 -- behind the first empty lemma nothing counts
 up_to_more : (lines later : List Line) → add_empty lines ≡ true → up_to_empty (lines ++ later) ≡ up_to_empty lines

@@ -1,22 +1,20 @@
 -- Steps of judging a proof's file piece by piece.
-use Rattle.std.proofs.Common.{◌≡◌, ◌⊎◌, ℕ, ◌≤◌, ◌+◌, List, [], ◌∷◌, ◌++◌, length, refl, ap, sym, ◌∙◌, inl, inr, append_assoc, append-nil, length-append, arith, Option, Some, None, Result, Ok, Err, take, drop, take-append-drop}
-use Rattle.std.specs.Io.KnownBytes.{prepend_known, IsAtEnd}
+use Rattle.std.proofs.Common.{◌≡◌, ◌⊎◌, ℕ, ◌≤◌, ◌+◌, List, [], ◌∷◌, ◌++◌, length, refl, ap, sym, ◌∙◌, inl, inr, append_assoc, append-nil, length-append, arith, Option, Some, None, Result, Ok, Err, take, drop, take-append-drop, ◌-◌, take_all, length-drop, false}
+use Rattle.std.specs.Prelude.{is_some}
+use Rattle.std.specs.Io.KnownBytes.{prepend_known}
 use Rattle.lit_base.specs.Cnf.{Cnf}
-use Rattle.lit_base.specs.Judgement.{add_empty}
 use Rattle.lit_base.specs.declared.proof.Line.{Line}
 use Rattle.desk_io.specs.Told.{InputsTold, SlotTold, Rose}
 use Rattle.desk_io.specs.declared.Slot.TheVariants.{Proof}
 use Rattle.lrat_text.specs.State.{ReaderState}
-use Rattle.lrat_text.specs.Reader.{HasRead}
 use Rattle.lrat_text.specs.Laws.{ReadBytesAreSound, ReadBytesAreFew}
 use Rattle.lrat_check.specs.declared.checker.Checker.{Checker}
-use Rattle.lrat_check.specs.Checking.{HasJudged}
 use Rattle.lrat_check.specs.Laws.{JudgedLinesAreSound}
 use Rattle.dp2ll.specs.declared.finding.Finding.{Finding}
 use Rattle.dp2ll.specs.declared.ending.ProofStop.{ProofStop}
 use Rattle.dp2ll.specs.declared.ending.ProofStop.TheVariants.{ReadFault, NoMemory}
-use Rattle.dp2ll.specs.Reading.{KeepsSlot, TakesWhile, TakesPiece}
-use Rattle.dp2ll.specs.Judging.{AreOpen, GoesOnProof, IsJudged, StopsJudging, FindsEarly, IsJudging, JudgesNext, HasJudgedTo, JudgesText, JudgesEnd, JudgesOn, JudgesLast, JudgesWhole, StopsAtRead, JudgesPiece, IsBetween, JudgesPieces}
+use Rattle.dp2ll.specs.Reading.{KeepsSlot, TakesPiece}
+use Rattle.dp2ll.specs.Judging.{GoesOnProof, IsJudged, StopsJudging, FindsEarly, IsJudging, JudgesNext, HasJudgedTo, JudgesText, JudgesOn, JudgesLast, JudgesWhole, StopsAtRead, JudgesPiece, IsBetween}
 use Rattle.dp2ll.proofs.ReadingLemmas.{prepend_nothing, taken_on, rose_since, takes_more, takes_judged, kept_twice}
 
 -- where judging stands, one more piece is read
@@ -123,15 +121,23 @@ judged_to_start reader checker text = record {
   judges = λ cnf bytes lines judging. (lines, rw (append-nil bytes) judging);
 }
 
+-- a text behind its first bytes, as a slice from there on gives it
+behind : (text : List ℕ) (taken : ℕ) → take (length text - taken) (drop taken text) ≡ drop taken text
+behind text taken = take_all (length text - taken) (drop taken text) (omega (arith, length-drop taken text))
+
 -- one line more
 pub judged_to_next : (first_reader : ReaderState) (first_checker : Checker) (reader next_reader : ReaderState) (checker next_checker : Checker)
-    (text rest : List ℕ) (taken : ℕ) → HasJudgedTo first_reader first_checker reader checker text rest
+    (text rest : List ℕ) (taken : ℕ) (found : Option Finding) → HasJudgedTo first_reader first_checker reader checker text rest
+    → is_some found ≡ false
     → ((cnf : Cnf) (bytes : List ℕ) (lines : List Line) → IsJudging cnf reader checker bytes lines
-        → JudgesNext cnf next_reader next_checker bytes rest (Ok (taken, None)))
-    → HasJudgedTo first_reader first_checker next_reader next_checker text (drop taken rest)
-judged_to_next first_reader first_checker reader next_reader checker next_checker text rest taken h next = record {
+    → JudgesNext cnf next_reader next_checker bytes rest (Ok (taken, found)))
+    → HasJudgedTo first_reader first_checker next_reader next_checker text (take (length rest - taken) (drop taken rest))
+judged_to_next first_reader first_checker reader next_reader checker next_checker text rest taken (Some finding) h none next = cc
+judged_to_next first_reader first_checker reader next_reader checker next_checker text rest taken None h none next = record {
   done = h.done ++ take taken rest;
-  parts = append_assoc h.done (take taken rest) (drop taken rest) ∙ ap (λ t. h.done ++ t) (take-append-drop taken rest) ∙ h.parts;
+  parts = append_assoc h.done (take taken rest) (take (length rest - taken) (drop taken rest))
+      ∙ ap (λ t. h.done ++ (take taken rest ++ t)) (behind rest taken)
+      ∙ ap (λ t. h.done ++ t) (take-append-drop taken rest) ∙ h.parts;
   judges = λ cnf bytes lines judging.
       let now = h.judges cnf bytes lines judging in
       let then = next cnf (bytes ++ h.done) now.0 now.1 in
@@ -142,7 +148,7 @@ judged_to_next first_reader first_checker reader next_reader checker next_checke
 pub judged_to_found : (first_reader : ReaderState) (first_checker : Checker) (reader next_reader : ReaderState) (checker next_checker : Checker)
     (text rest : List ℕ) (taken : ℕ) (finding : Finding) → HasJudgedTo first_reader first_checker reader checker text rest
     → ((cnf : Cnf) (bytes : List ℕ) (lines : List Line) → IsJudging cnf reader checker bytes lines
-        → JudgesNext cnf next_reader next_checker bytes rest (Ok (taken, Some finding)))
+    → JudgesNext cnf next_reader next_checker bytes rest (Ok (taken, Some finding)))
     → (cnf : Cnf) (bytes : List ℕ) (lines : List Line) → IsJudging cnf first_reader first_checker bytes lines
     → FindsEarly cnf (bytes ++ text) finding
 judged_to_found first_reader first_checker reader next_reader checker next_checker text rest taken finding h next cnf bytes lines judging =

@@ -2,6 +2,7 @@ pub mod ReadingLemmas
 pub mod Backed
 pub mod Found
 pub mod Judged
+pub mod Checked
 pub mod Logged
 pub mod Answered
 pub mod Options

@@ -2,7 +2,7 @@
 use Rattle.std.proofs.Common.{◌≡◌, ◌⊎◌, true, ℕ, ◌≤◌, List, [], ◌∷◌, ◌++◌, ◌∙◌, ap, refl, inl, inr, arith, Option, Some, None, Result, Ok, Err}
 use Rattle.std.specs.Prelude.{is_some}
 use Rattle.std.specs.Io.KnownBytes.{append_known}
-use Rattle.desk_io.specs.Told.{PortTold, OutputsTold, Rose}
+use Rattle.desk_io.specs.Told.{PortTold, OutputsTold}
 use Rattle.desk_io.specs.Outputs.{GrowsByFront}
 use Rattle.desk_io.specs.declared.Port.TheVariants.{Log}
 use Rattle.log_merge.specs.declared.stop.Stop.{Stop}
@@ -11,7 +11,7 @@ use Rattle.crew.specs.Turns.{WritesLog}
 use Rattle.dp2ll.specs.declared.ending.WriteStop.{WriteStop}
 use Rattle.dp2ll.specs.declared.ending.WriteStop.TheVariants.{LogFault, AnswerFault, NoMemory}
 use Rattle.dp2ll.specs.Running.{stop_of}
-use Rattle.dp2ll.specs.Logging.{LogTold, log_told, rewritten, HoldsLog, HoldsFront, CutsLog, FailsLog, LogsWhole, LogsFault, LogsPart, KeepsLog}
+use Rattle.dp2ll.specs.Logging.{LogTold, log_told, rewritten, HoldsLog, HoldsFront, CutsLog, LogsWhole, KeepsLog}
 
 -- what is written to an emptied log is all that stands there
 written_anew : (known : Option (List ℕ)) (text : List ℕ) → append_known (rewritten known []) text ≡ rewritten known text

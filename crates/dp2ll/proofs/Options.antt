@@ -1,5 +1,5 @@
 -- Options and their numbers.
-use Rattle.std.proofs.Common.{◌≡◌, ℕ, ◌≤◌, ◌<◌, ◌&&◌, nat_le, cond, Bool, true, false, List, [], ◌∷◌, length, refl, ◌++◌, ◌==◌, append-nil, map, arith, rules, Option, Some, None, Result, Ok, Err}
+use Rattle.std.proofs.Common.{◌≡◌, ℕ, ◌≤◌, ◌<◌, ◌&&◌, nat_le, cond, Bool, true, false, List, [], ◌∷◌, length, refl, ◌++◌, ◌==◌, map, arith, rules, Option, Some, None, Err}
 use Rattle.std.proofs.lemmas.Grind.{common_steps}
 use Rattle.std.specs.List.{list_all}
 use Rattle.std.specs.Char.{is_ascii_digit}

@@ -1,6 +1,5 @@
 -- What a run leaves on log and answer.
 use Rattle.std.proofs.Common.{◌≡◌, ◌⊎◌, ℕ, List, [], append-nil, ap, inl, inr, rules, Option, Some, None}
-use Rattle.lit_base.specs.Cnf.{Cnf}
 use Rattle.solo_core.specs.declared.sheet.Settings.{Settings}
 use Rattle.crew.specs.Log.{log_text}
 use Rattle.crew.specs.Outcome.{outcome_of}

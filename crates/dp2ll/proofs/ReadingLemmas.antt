@@ -15,7 +15,7 @@ use Rattle.cnf_text.specs.Reader.{HasRead, Ends}
 use Rattle.cnf_text.specs.Laws.{ReadBytesAreSound, ReadBytesAreFew}
 use Rattle.dp2ll.specs.declared.ending.ReadStop.{ReadStop}
 use Rattle.dp2ll.specs.declared.ending.ReadStop.TheVariants.{NoFormula, ReadFault, NoMemory}
-use Rattle.dp2ll.specs.Reading.{KeepsSlot, KeepsBegun, GoesOn, TakesWhile, Takes, bytes_taken, IsReading, StopsAtPiece, ReadsPiece, MeetsFault, StopsBy, ReadsOn, ReadsNothing, ReadsLast, TakesPiece, ReadsAll, StopsReading, IsRead, IsOfFile}
+use Rattle.dp2ll.specs.Reading.{KeepsSlot, KeepsBegun, GoesOn, TakesWhile, bytes_taken, IsReading, StopsAtPiece, ReadsPiece, MeetsFault, StopsBy, ReadsOn, ReadsNothing, ReadsLast, TakesPiece, ReadsAll, StopsReading, IsRead, IsOfFile}
 
 -- bytes put before bytes put before the known ones
 prepend_twice : (front back : List ℕ) (known : Option (List ℕ)) → prepend_known front (prepend_known back known) ≡ prepend_known (front ++ back) known

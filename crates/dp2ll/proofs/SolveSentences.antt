@@ -1,6 +1,5 @@
 -- The sentences of `solve`, from the record of a run.
 use Rattle.std.proofs.Common.{◌≡◌, ◌⊎◌, ◌↔◌, ◌++◌, codes, rules, ℕ, List, Bool, inl, inr, sym, ◌∙◌, arith, refl, Option, Some, None}
-use Rattle.lit_base.specs.Cnf.{Cnf}
 use Rattle.lit_base.specs.Text.{values_text}
 use Rattle.desk_io.specs.declared.Slot.TheVariants.{Formula}
 use Rattle.solo_core.specs.declared.sheet.Settings.{Settings}
@@ -11,12 +10,11 @@ use Rattle.crew.specs.Outcome.{outcome_of}
 use Rattle.dp2ll.specs.declared.words.Job.{Job}
 use Rattle.dp2ll.specs.declared.words.Job.TheVariants.{Solve, Check}
 use Rattle.dp2ll.specs.declared.finding.Finding.TheVariants.{Verified}
-use Rattle.dp2ll.specs.declared.ending.Ending.{Ending}
 use Rattle.dp2ll.specs.declared.ending.Ending.TheVariants.{Answered, Judged}
 use Rattle.dp2ll.specs.Ending.{verdict_status, status_of, complaint_of}
 use Rattle.dp2ll.specs.Complaint.{Tells}
 use Rattle.desk_io.specs.declared.Port.TheVariants.{Complaint}
-use Rattle.dp2ll.specs.Outcome.{AreAllSpent, answer_text, FindsModel}
+use Rattle.dp2ll.specs.Outcome.{answer_text}
 use Rattle.dp2ll.specs.Serving.{Desk, Solves, ServesJob}
 use Rattle.dp2ll.specs.Headline.{Run, Headline, IsToldFormula, desk_before, desk_after, OnSolve, IsSolve, EndsBy, IsSolved, PrintsModel, PrintsProof, IsModel, IsRefutation, IsVerdict, GivesUpSpent, IsUnknown, SolveSentences}
 use Rattle.dp2ll.proofs.Statuses.{at_ten, at_twenty, at_zero}
@@ -70,7 +68,7 @@ solved_of run h is = record {
 -- what holds of the `solve` of a run that ended like this
 on_ended : (run : Run) (verdict : Verdict) (Q : List ℕ → Option (List ℕ) → Settings → Type 0) → EndsBy run (Answered verdict)
     → ((file : List ℕ) (log : Option (List ℕ)) (settings : Settings) → Solves file log settings (desk_before run) (desk_after run) (Answered verdict)
-        → Q file log settings)
+    → Q file log settings)
     → OnSolve run.job Q
 on_ended run verdict Q ends gives = on_answered run.job (desk_before run) (desk_after run) verdict Q ends.serves gives
 

@@ -7,7 +7,6 @@ use Rattle.desk_io.specs.Outputs.{GrowsByFront}
 use Rattle.desk_io.specs.declared.Port.TheVariants.{Answer, Complaint}
 use Rattle.solo_core.specs.declared.sheet.Settings.{Settings}
 use Rattle.crew.specs.declared.outcome.Verdict.{Verdict}
-use Rattle.crew.specs.declared.outcome.Outcome.{Outcome}
 use Rattle.crew.specs.Log.{log_text}
 use Rattle.crew.specs.Outcome.{outcome_of}
 use Rattle.dp2ll.specs.declared.ending.WriteStop.{WriteStop}

@@ -1,5 +1,5 @@
 -- Judging a proof's file: what was taken of it, what was found, and how that ended.
-use Rattle.std.specs.Prelude.{◌≡◌, ◌⊎◌, ℕ, ◌≤◌, List, [], ◌∷◌, ◌++◌, length, take, Bool, true, false, Option, Some, None, Result, Ok, Err, IsOk}
+use Rattle.std.specs.Prelude.{◌≡◌, ◌⊎◌, ℕ, ◌≤◌, List, [], ◌∷◌, ◌++◌, length, take, false, Option, Some, None, Result, Ok, Err, IsOk}
 use Rattle.std.specs.Io.KnownBytes.{prepend_known, IsAtEnd}
 use Rattle.lit_base.specs.Cnf.{Cnf}
 use Rattle.lit_base.specs.Judgement.{judge, adds_empty, add_empty, Checks}
@@ -22,7 +22,7 @@ use Rattle.dp2ll.specs.declared.finding.Finding.{Finding}
 use Rattle.dp2ll.specs.declared.finding.Finding.TheVariants.{Verified, Flawed}
 use Rattle.dp2ll.specs.declared.ending.ProofStop.{ProofStop}
 use Rattle.dp2ll.specs.declared.ending.ProofStop.TheVariants.{ReadFault, NoMemory}
-use Rattle.dp2ll.specs.Reading.{BeginsSlot, KeepsSlot, TakesWhile, bytes_taken, TakesPiece, FailsToTake}
+use Rattle.dp2ll.specs.Reading.{KeepsSlot, TakesWhile, bytes_taken, TakesPiece, FailsToTake}
 
 -- == what is found of a proof that reads as these steps ==
 

@@ -1,5 +1,5 @@
 -- How the running of cores ends, as the program has it.
-use Rattle.std.specs.Prelude.{◌≡◌, Result, Ok, Err}
+use Rattle.std.specs.Prelude.{Result, Ok, Err}
 use Rattle.log_merge.specs.declared.stop.Stop.{Stop}
 use Rattle.log_merge.specs.declared.stop.Stop.TheVariants.{WriteFault, NoMemory as WantOfMemory}
 use Rattle.crew.specs.declared.outcome.Outcome.{Outcome}

@@ -102,10 +102,7 @@ fn flaw_text(alloc: Global, flaw: Flaw) -> Result<Vec<u8>, NoMemory>
         Flaw::Misread(fault) => proof_line(alloc, fault.line(), fault.name(), None),
         Flaw::Misjudged(fault) => proof_line(alloc, fault.line(), fault.name(), fault.place()),
         Flaw::NoEmptyClause => {
-            Ok(Vec::from_slice(
-                alloc,
-                b"dp2ll: proof has no empty clause\n",
-            )?)
+            Ok(Vec::from_slice(alloc, b"dp2ll: proof has no empty clause\n")?)
         }
     }
 }

@@ -13,7 +13,8 @@ use desk_io::{Inputs, Slot};
 use lit_base::Formula;
 use lrat_check::{CheckFault, Checker, Step, law_judged_lines_are_sound};
 use lrat_text::{
-    Line, LineFault, LineReader, early_fault_stays, ended_lines_stay, read_bytes_are_sound,
+    Line, LineFault, LineReader, early_fault_stays, ended_lines_stay, read_bytes_are_few,
+    read_bytes_are_sound,
 };
 use std::alloc::Global;
 
@@ -65,6 +66,7 @@ fn judge_pieces<I: Inputs>(
     ensures judges { JudgesPieces formula.now ((I.told inputs.old).at Proof) ((I.told inputs.new).at Proof) result }
 {
     read_bytes_are_sound();
+    read_bytes_are_few();
     law_judged_lines_are_sound();
     for _ in 0..MOST_TURNS {
         if let Some(finding) = judge_piece(inputs, reader, checker, buffer)? {

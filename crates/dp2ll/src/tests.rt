@@ -155,7 +155,10 @@ fn run_over<R: Threads + Wait + Sync>(
 ) -> Result<Left, Fail> {
     let mut files = List::new(alloc);
     for file in held {
-        files.push((List::of(alloc, file.0.as_bytes())?, List::of(alloc, file.1)?))?;
+        files.push((
+            List::of(alloc, file.0.as_bytes())?,
+            List::of(alloc, file.1)?,
+        ))?;
     }
     let reads = failing_at(
         alloc,

@@ -20,7 +20,10 @@ pub enum Job {
         settings: Settings,
     },
     /// `check FILE PROOF`: judge the proof in the second file against the formula in the first.
-    Check { file: Text, proof: Text },
+    Check {
+        file: Text,
+        proof: Text,
+    },
 }
 
 /// Why words gave no job.

@@ -160,10 +160,25 @@ fn says<R: Abort>(
     grain: usize,
 ) {
     assert_eq!(rt; left.status, status, "{:?} at {grain}", proof);
-    assert_eq!(rt; left.outputs.kept(Port::Answer), answer, "{:?} at {grain}", proof);
-    assert_eq!(rt; left.outputs.kept(Port::Complaint), complaint, "{:?} at {grain}", proof);
+    assert_eq!(rt;
+        left.outputs.kept(Port::Answer),
+        answer,
+        "{:?} at {grain}",
+        proof
+    );
+    assert_eq!(rt;
+        left.outputs.kept(Port::Complaint),
+        complaint,
+        "{:?} at {grain}",
+        proof
+    );
     assert_eq!(rt; left.outputs.kept(Port::Log), b"", "{:?} at {grain}", proof);
-    assert_eq!(rt; left.outputs.kept_names().len(), 0, "{:?} at {grain}", proof);
+    assert_eq!(rt;
+        left.outputs.kept_names().len(),
+        0,
+        "{:?} at {grain}",
+        proof
+    );
 }
 
 /// How many reads a proof takes: up to the byte that decides, or up to its end and the read that meets it.
@@ -195,7 +210,12 @@ fn a_proof_gives_the_same_for_every_cutting(rt: HostRuntime) -> Result<(), Fail>
                 row.proof,
                 grain,
             );
-            assert_eq!(&rt; left.reads, formula_reads(grain).saturating_add(reads_of(row, grain)), "{:?} at {grain}", row.proof);
+            assert_eq!(&rt;
+                left.reads,
+                formula_reads(grain).saturating_add(reads_of(row, grain)),
+                "{:?} at {grain}",
+                row.proof
+            );
         }
     }
     Ok(())
@@ -212,7 +232,15 @@ fn a_call_of_check_that_fails(rt: HostRuntime) -> Result<(), Fail> {
                 ..NONE
             };
             let left = check_on(&rt, rt.alloc(), proof, grain, failing)?;
-            says(&rt, &left, 3, b"", b"dp2ll: cannot read proof\n", proof, grain);
+            says(
+                &rt,
+                &left,
+                3,
+                b"",
+                b"dp2ll: cannot read proof\n",
+                proof,
+                grain,
+            );
         }
         for call in 1..=calls_for(11, grain) {
             let failing = Failing {
@@ -224,7 +252,15 @@ fn a_call_of_check_that_fails(rt: HostRuntime) -> Result<(), Fail> {
                 b"s VERIFIED\n",
                 call.saturating_sub(1).saturating_mul(grain),
             );
-            says(&rt, &left, 4, answer, b"dp2ll: cannot write answer\n", proof, grain);
+            says(
+                &rt,
+                &left,
+                4,
+                answer,
+                b"dp2ll: cannot write answer\n",
+                proof,
+                grain,
+            );
         }
     }
     Ok(())
@@ -234,10 +270,7 @@ fn a_call_of_check_that_fails(rt: HostRuntime) -> Result<(), Fail> {
 #[test]
 fn the_first_refusal_of_check_decides(rt: HostRuntime) -> Result<(), Fail> {
     let alloc = rt.alloc();
-    let failing = Failing {
-        answer: 1,
-        ..NONE
-    };
+    let failing = Failing { answer: 1, ..NONE };
     let left = check_on(&rt, alloc, ROWS[5].proof, 3, failing)?;
     says(&rt, &left, 4, b"", b"dp2ll: cannot write answer\n", b"", 3);
     let left = run_over(
@@ -248,7 +281,15 @@ fn the_first_refusal_of_check_decides(rt: HostRuntime) -> Result<(), Fail> {
         3,
         NONE,
     )?;
-    says(&rt, &left, 2, b"", b"dp2ll: formula line 1: BadHeader\n", b"x", 3);
+    says(
+        &rt,
+        &left,
+        2,
+        b"",
+        b"dp2ll: formula line 1: BadHeader\n",
+        b"x",
+        3,
+    );
     let left = run_over(&rt, alloc, &WORDS, &[("f", SQUARE)], 3, NONE)?;
     says(&rt, &left, 3, b"", b"dp2ll: cannot read proof\n", b"", 3);
     let left = run_over(&rt, alloc, &WORDS, &[("p", b"x")], 3, NONE)?;

@@ -8,7 +8,7 @@ pub returns-in_ok-judge_line-in-Ok-default-Some-clause-next :
 returns-in_ok-judge_line-in-Ok-default-Some-clause-next c = λ cnf bytes lines judging.
     next_judged c.ended_lines_stay.ensures c.read_bytes_are_sound.ensures cnf c.feed.new.self c.judge_line.new.checker bytes c.args.text.now
     c.in-Ok-default-Some.taken lines c.in-Ok-default-Some.line c.in_ok-judge_line-in-Ok-default-Some.field-0
-    (c.in-Ok-default-Some.ensures.feeds bytes lines judging.read) judging.unended
+    (rw c.in-Ok-default-Some.field-0-1-is at c.in-Ok-default-Some.ensures.feeds bytes lines judging.read) judging.unended
     (c.in_ok-judge_line-in-Ok-default-Some.ensures cnf lines judging.judged)
 
 -- the reader met a fault
