@@ -46,6 +46,8 @@ from collections import defaultdict, namedtuple
 
 TOP = os.path.dirname(os.path.dirname(os.path.abspath(__file__)))
 PEERS = ('lrat-check', 'lrat_check', 'cake_lpr')
+TIMES = ('  the peer takes %(processor).2f times the processor time of dp2ll, %(clock).2f times its time by the clock and '
+         '%(memory).2f times its memory')
 
 # positions: how many variables stand in a row; block: how many of them share their other literals, and how many those are;
 # kinds: how many originals begin at a position, each a step longer than the one before it; beside: how many other literals
@@ -273,8 +275,7 @@ def report(name, formula, proof, figures):
                  size / max(row['processor'], 1e-4), row['memory']))
     times = ratios(figures)
     if times:
-        print('  the peer takes %(processor).2f of the processor time of dp2ll, %(clock).2f of its time by the clock, '
-              '%(memory).2f of its memory' % times)
+        print(TIMES % times)
     sys.stdout.flush()
 
 
@@ -284,8 +285,8 @@ def summary(kept):
         print('\nno proof was verified by dp2ll and by a peer')
         return
     means = {key: math.exp(sum(math.log(times[key]) for times in both) / len(both)) for key in both[0]}
-    print('\ngeometric means over the %d proofs that both verified: the peer takes' % len(both),
-          '%(processor).2f of the processor time of dp2ll, %(clock).2f of its time by the clock, %(memory).2f of its memory' % means)
+    print('\ngeometric means over the %d proofs that both verified' % len(both))
+    print(TIMES % means)
 
 
 def cases(args, folder, programs):
