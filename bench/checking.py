@@ -10,8 +10,9 @@ implication over a stretch, its hints are the clauses along it, originals and ea
 the empty lemma at the end. Names and clauses of a formula are shuffled. Shapes, of some 100 MB of proof each:
 
     chain of lemmas       over 600,000 clauses: each lemma takes the one before it on by one to three clauses
-    wide lemmas           of some 50 literals, with 40 to 160 hints
-    many deletions        of some 8 literals and 12 hints; each lemma is deleted 5 to 3,000 lines after it was added
+    wide lemmas           of some 50 literals, with some 40 to 160 hints
+    many deletions        of some 10 literals and 12 hints, mostly used by the next one; each lemma is deleted 5 to 3,000
+                          lines after it was added
     ids that leave out    some 8 hints; ids leave others out, mostly a few, now and then many, as those of a trimmed proof
 
 and, by dp2ll alone, a quarter as large, as no peer has to read it:
@@ -73,12 +74,12 @@ def far(draw):
 
 SHAPES = {
     'chain of lemmas': Shape(1, 300_000, 4_000, 4, 2, (1, 1), (2, 4), 0.999, 0.0, None, by_one),
-    'wide lemmas': Shape(2, 100_000, 1_000, 60, 1, (2, 8), (40, 160), 0.0, 0.05, None, by_one),
-    'many deletions': Shape(3, 60_000, 600, 8, 2, (1, 2), (8, 16), 0.0, 0.2, (5, 3_000), by_one),
-    'ids that leave out': Shape(4, 60_000, 600, 12, 2, (1, 2), (4, 12), 0.3, 0.2, None, trimmed),
+    'wide lemmas': Shape(2, 100_000, 2_000, 60, 1, (1, 2), (40, 160), 0.0, 0.1, None, by_one),
+    'many deletions': Shape(3, 60_000, 600, 8, 2, (1, 2), (8, 16), 0.9, 0.2, (5, 3_000), by_one),
+    'ids that leave out': Shape(4, 60_000, 600, 12, 2, (1, 2), (4, 12), 0.7, 0.2, None, trimmed),
 }
 OWN_SHAPES = {
-    'ids that no array has': Shape(5, 60_000, 600, 12, 2, (1, 2), (4, 12), 0.3, 0.2, None, far, 4),
+    'ids that no array has': Shape(5, 60_000, 600, 12, 2, (1, 2), (4, 12), 0.7, 0.2, None, far, 4),
 }
 
 # An implication from one position to a later one: its id, as text; the later position; a bit for each literal beside the two;
@@ -130,9 +131,9 @@ class Maker:
             out.write('%s 0\n-%s 0\n' % (self.unit, self.unit))
 
     def next_part(self, at, line):
-        """What leads on from a position: a lemma that is still held and isn't long itself, or an original."""
+        """What leads on from a position: a lemma that is still held, or an original."""
         lemma = self.newest[at] if self.draw.random() < self.shape.reused else None
-        if lemma is not None and (lemma.dies is None or lemma.dies > line) and lemma.to - at <= 2 * self.shape.hints[1]:
+        if lemma is not None and (lemma.dies is None or lemma.dies > line):
             return lemma
         return self.draw.choice(self.originals[at])
 
@@ -167,7 +168,10 @@ class Maker:
                 line += 1
                 life = self.draw.randint(*self.shape.life) if self.shape.life else None
                 lemma = Known(str(number), parts[-1].to, beside, life and line + life)
-                self.newest[at], self.previous = lemma, (at, lemma)
+                self.previous = at, lemma
+                # long ones would end the next stretches early
+                if lemma.to - at <= 2 * self.shape.hints[1]:
+                    self.newest[at] = lemma
                 if life:
                     over[line + life].append(lemma.id)
                 ended = over.pop(line, None)
