@@ -172,7 +172,12 @@ fn says<R: Abort>(
         "{:?} at {grain}",
         proof
     );
-    assert_eq!(rt; left.outputs.kept(Port::Log), b"", "{:?} at {grain}", proof);
+    assert_eq!(rt;
+        left.outputs.kept(Port::Log),
+        b"".as_slice(),
+        "{:?} at {grain}",
+        proof
+    );
     assert_eq!(rt;
         left.outputs.kept_names().len(),
         0,
