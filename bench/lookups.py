@@ -1,0 +1,297 @@
+#!/usr/bin/env python3
+"""Times the look-ups of clauses in a pool, and tells the memory that a clause takes beside its literals.
+
+    bench/lookups.py [--crates FOLDER] [--looks N]
+
+A program over `clause_pool` is written into a throwaway repository beside copies of lit_base and clause_pool (of this
+checkout, or of FOLDER), proved and built there by `rt run`, and then run. It adds clauses of 3 to 12 random literals, half
+of them originals and half lemmas under names with periods up to ten million and gaps between the indexes, and then reads
+the first literal of clauses that are picked at random, 2^20 picks over and over: nanoseconds a look-up, the least of three
+rounds. `lits` goes by the name, `near` by the name and the place that the call before put right (where the crate has it);
+`held` asks for lemmas alone. Memory is the peak of a process that adds all clauses less that of one that adds none, a
+clause, less the four bytes of each literal.
+"""
+import argparse
+import os
+import shutil
+import subprocess
+import sys
+import tempfile
+
+TOP = os.path.dirname(os.path.dirname(os.path.abspath(__file__)))
+SIZES = (8_000, 400_000)
+
+MAIN = '''//! Times look-ups of clauses.
+#![tactic(auto)]
+ghost use Rattle.std.specs.Prelude.{◌≡◌, ◌<◌, All, IsSome, IsTrue, length};
+ghost use Rattle.lit_base.specs.Named.{lits_at};
+ghost use Rattle.lit_base.specs.Held.{clauses_of};
+
+use clause_pool::{Pool, Steps};
+use lit_base::{Clause, Lit, Name};
+use std::alloc::Global;
+use std::marker::Brand;
+use std::rt::Clock;
+use std::sync::ledger::{Blank, Ledger};
+use std::time::Instant;
+use std::{env, io};
+
+/// The next of a sequence of pseudo-random numbers.
+fn after(state: u64) -> u64 {
+    state
+        .wrapping_mul(6_364_136_223_846_793_005)
+        .wrapping_add(1_442_695_040_888_963_407)
+}
+
+/// A clause of 3 to 12 random literals.
+fn clause(alloc: Global, first: u64) -> Result<Clause, io::Error> {
+    let mut lits = Vec::new(alloc);
+    let mut state = first;
+    for _ in 0..3 + (first >> 40) % 10 {
+        state = after(state);
+        let variable = 1 + ((state >> 33) % 1_000_000) as u32;
+        lits.push(Lit::of(variable, (state >> 20) % 2 == 0))?;
+    }
+    Clause::of(alloc, &lits).map_err(|_| io::Error::from(io::ErrorKind::OutOfMemory))
+}
+
+/// Adds clauses, half of them originals, and answers their names and the number of their literals.
+fn fill(alloc: Global, pool: &mut Pool, count: u32) -> Result<(Vec<Name>, u64), io::Error> {
+    let mut names = Vec::new(alloc);
+    let mut literals = 0u64;
+    for index in 0..count {
+        let clause = clause(alloc, after(u64::from(index).wrapping_mul(0x9E37_79B9)))?;
+        let name = if index < count / 2 {
+            Name { period: 0, core: 0, index }
+        } else {
+            Name {
+                period: 1 + index.wrapping_mul(7_919) % 10_000_000,
+                core: index % 8,
+                index: index.wrapping_mul(3),
+            }
+        };
+        if !pool.held(name) {
+            pool.add(name, clause.lits())
+                .map_err(|_| io::Error::from(io::ErrorKind::OutOfMemory))?;
+            literals = literals.wrapping_add(clause.lits().len() as u64);
+            names.push(name)?;
+        }
+    }
+    Ok((names, literals))
+}
+
+/// Random picks of these names.
+fn picks(alloc: Global, names: &[Name], count: u32) -> Result<Vec<Name>, io::Error> {
+    let mut picked = Vec::new(alloc);
+    let mut state = 7;
+    for _ in 0..count {
+        state = after(state);
+        if let Some(name) = names.get(((state >> 33) % (1 + names.len() as u64)) as usize) {
+            picked.push(*name)?;
+        }
+    }
+    Ok(picked)
+}
+
+/// Whether clauses of all these names are held.
+fn are_held(pool: &Pool, names: &[Name]) -> bool
+    ensures { IsTrue result → All (λ name. IsSome (lits_at (clauses_of pool.now) name)) names.now }
+{
+    names.iter().all(|name| pool.held(*name))
+}
+
+/// How many of the names are held.
+fn count_held(pool: &Pool, names: &[Name]) -> u64 {
+    let mut sum = 0u64;
+    for name in names {
+        if pool.held(*name) {
+            sum = sum.wrapping_add(1);
+        }
+    }
+    sum
+}
+
+/// The sum of the first literals; nobody counts the steps.
+fn read(pool: &Pool, names: &[Name]) -> u64
+    requires { All (λ name. IsSome (lits_at (clauses_of pool.now) name)) names.now }
+{
+    read_on::<Brand>(Blank::new(1), pool, names)
+}
+
+fn read_on<L: Ledger>(blank: Blank, pool: &Pool, names: &[Name]) -> u64
+    requires name { blank.name ≡ L.name }
+    requires parts { blank.parts ≡ L.parts }
+    requires some { 0 < blank.parts }
+    requires held { All (λ name. IsSome (lits_at (clauses_of pool.now) name)) names.now }
+{
+    let mut steps = Steps::<L>::new(blank);
+    let mut sum = 0u64;
+    for name in names {
+        if let Some(lit) = pool.lits(*name, &mut steps).first() {
+            sum = sum.wrapping_add(lit.index() as u64);
+        }
+    }
+    sum
+}
+NEAR_READ
+/// Times look-ups of these names.
+fn time<R: Clock + Print + AllocGlobal>(rt: &R, pool: &Pool, what: &str, names: &[Name], looks: u64) -> Result<(), io::Error> {
+    let alloc = rt.alloc();
+    if !are_held(pool, names) {
+        return Ok(());
+    }
+    let mut places = Vec::new(alloc);
+    for _ in 0..names.len() {
+        places.push(0u32)?;
+    }
+    let rounds = (looks / (1 + names.len() as u64)).saturating_add(1);
+    for _ in 0..3 {
+        let mut sum = 0u64;
+        let start = Instant::now(rt)?;
+        for _ in 0..rounds {
+            sum = sum.wrapping_add(count_held(pool, names));
+        }
+        let held = start.elapsed(rt)?;
+        let start = Instant::now(rt)?;
+        for _ in 0..rounds {
+            sum = sum.wrapping_add(read(pool, names));
+        }
+        let lits = start.elapsed(rt)?;
+        let start = Instant::now(rt)?;
+        for _ in 0..rounds {
+            sum = sum.wrapping_add(NEAR_CALL);
+        }
+        let near = start.elapsed(rt)?;
+        println!(rt; "{what} {} {} {} {} {sum}", rounds.wrapping_mul(names.len() as u64), held.as_nanos(), lits.as_nanos(), near.as_nanos())?;
+    }
+    Ok(())
+}
+
+/// Fills a pool of so many clauses and times its look-ups.
+fn run<R: Clock + Print + AllocGlobal>(rt: &R, count: u32, looks: u64) -> Result<(), io::Error> {
+    let alloc = rt.alloc();
+    let mut pool = Pool::new(alloc);
+    let (names, literals) = fill(alloc, &mut pool, count)?;
+    println!(rt; "filled {} {literals}", names.len())?;
+    if looks == 0 {
+        return Ok(());
+    }
+    let half = (count / 2) as usize;
+    if half > names.len() {
+        return Ok(());
+    }
+    let originals = picks(alloc, &names[..half], 1_048_576)?;
+    time(rt, &pool, "originals", &originals, looks)?;
+    let lemmas = picks(alloc, &names[half..], 1_048_576)?;
+    time(rt, &pool, "lemmas", &lemmas, looks)
+}
+
+fn main(rt: HostRuntime) -> Result<(), io::Error> {
+    let mut numbers = [0u64; 2];
+    let mut place = 0;
+    for word in env::args(&rt)?.skip(1) {
+        if place < 2 {
+            numbers[place] = word.parse::<u64>().unwrap_or(0);
+            place += 1;
+        }
+    }
+    run(&rt, (numbers[0] % 100_000_000) as u32, numbers[1])
+}
+'''
+
+GHOSTS = '''use Rattle.lookups.proofs.%s.Given as goal
+
+-- the ledger of the blank
+abbrev pub ghosts-%s_on : goal.ghosts-%s_on
+ghosts-%s_on a = record { name = a.blank.name; parts = a.blank.parts }
+'''
+
+NEAR_READ = '''
+/// The same by the places that were put right before.
+fn read_near(pool: &Pool, names: &[Name], places: &mut [u32]) -> u64
+    requires { All (λ name. IsSome (lits_at (clauses_of pool.now) name)) names.now }
+{
+    read_near_on::<Brand>(Blank::new(1), pool, names, places)
+}
+
+fn read_near_on<L: Ledger>(blank: Blank, pool: &Pool, names: &[Name], places: &mut [u32]) -> u64
+    requires name { blank.name ≡ L.name }
+    requires parts { blank.parts ≡ L.parts }
+    requires some { 0 < blank.parts }
+    requires held { All (λ name. IsSome (lits_at (clauses_of pool.now) name)) names.now }
+{
+    let mut steps = Steps::<L>::new(blank);
+    let mut sum = 0u64;
+    for i in 0..names.len() {
+        if let Some(place) = places.get_mut(i) {
+            if let Some(lit) = pool.lits_near(names[i], place, &mut steps).first() {
+                sum = sum.wrapping_add(lit.index() as u64);
+            }
+        }
+    }
+    sum
+}
+
+'''
+
+
+def build(crates):
+    """The built program, in a throwaway repository."""
+    folder = tempfile.mkdtemp(prefix='lookups')
+    for name in ('lit_base', 'clause_pool'):
+        shutil.copytree(os.path.join(crates, name), os.path.join(folder, 'crates', name), ignore=shutil.ignore_patterns('out', 'must-fail'))
+    with open(os.path.join(folder, 'crates.txt'), 'w') as out:
+        out.write('lit_base:\nclause_pool: lit_base\nlookups: lit_base clause_pool\n')
+    source = os.path.join(folder, 'crates', 'lookups', 'src')
+    os.makedirs(source)
+    with open(os.path.join(crates, 'clause_pool', 'src', 'pool.rt')) as pool:
+        near = 'fn lits_near' in pool.read()
+    text = MAIN.replace('NEAR_READ', NEAR_READ if near else '')
+    text = text.replace('NEAR_CALL', 'read_near(pool, names, &mut places)' if near else '0')
+    with open(os.path.join(source, 'main.rt'), 'w') as out:
+        out.write(text)
+    for function in ('read', 'read_near') if near else ('read',):
+        ghosts = os.path.join(os.path.dirname(source), 'proofs', function)
+        os.makedirs(ghosts)
+        with open(os.path.join(ghosts, 'Invariants.antt'), 'w') as out:
+            out.write(GHOSTS % ((function,) * 4))
+    run = subprocess.run(['rt', 'run', '--', '8', '0'], cwd=os.path.dirname(source), stdout=subprocess.PIPE, stderr=subprocess.STDOUT, text=True)
+    if run.returncode:
+        sys.exit(run.stdout)
+    return folder, os.path.join(os.path.dirname(source), 'out', 'lookups')
+
+
+def run(command):
+    """What a run writes, and its peak memory in bytes."""
+    child = subprocess.Popen(command, stdout=subprocess.PIPE, text=True)
+    text = child.stdout.read()
+    _, _, usage = os.wait4(child.pid, 0)
+    return text, usage.ru_maxrss * 1024
+
+
+def main():
+    parser = argparse.ArgumentParser()
+    parser.add_argument('--crates', default=os.path.join(TOP, 'crates'))
+    parser.add_argument('--looks', type=int, default=5_000_000)
+    args = parser.parse_args()
+    folder, program = build(args.crates)
+    try:
+        _, least = run([program, '0', '0'])
+        for size in SIZES:
+            text, peak = run([program, str(size), '0'])
+            _, names, literals = text.split()[:3]
+            beside = (peak - least - 4 * int(literals)) / int(names) - 12
+            print('%d clauses: %.1f bytes a clause beside its literals' % (size, beside))
+            text, _ = run([program, str(size), str(args.looks)])
+            best = {}
+            for line in text.splitlines()[1:]:
+                what, looks, *times = line.split()[:5]
+                best[what] = [min(a, int(t) / int(looks)) for a, t in zip(best.get(what, [float('inf')] * 3), times)]
+            for what, (held, lits, near) in best.items():
+                print('  %-9s  held %6.1f ns  lits %6.1f ns  near %6.1f ns' % (what, held, lits, near))
+    finally:
+        shutil.rmtree(folder)
+
+
+if __name__ == '__main__':
+    main()
