@@ -7,7 +7,7 @@ Families: uniform random three-literal formulas at the threshold of 4.26 clauses
 parities along two chains, and the equivalence of two adders and of two multipliers. Each file has the verdict that is
 expected of it; a solver that gives another is reported, and the script then ends with 1. Solvers: dp2ll, and minisat
 -no-pre and cadical where they are on the path. They run in turn, N times, with a limit of S seconds a file. For each file
-stand the verdict, the least seconds, the conflicts (of dp2ll by the lines of its log, in a run of its own that isn't
+stand the verdict, the least processor seconds, the conflicts (of dp2ll by the lines of its log, in a run of its own that isn't
 timed), the conflicts a second and the peak memory (of which some 16 MB are this script's own); at the end the geometric
 means over the files that every solver answered. `--out` keeps all figures, and `--against` compares dp2ll's seconds and
 conflicts with those of an earlier run.
@@ -23,7 +23,6 @@ import shutil
 import subprocess
 import sys
 import tempfile
-import time
 
 TOP = os.path.dirname(os.path.dirname(os.path.abspath(__file__)))
 VERDICTS = {10: 'SAT', 20: 'UNSAT', 0: 'UNKNOWN'}
@@ -179,12 +178,11 @@ def write_formula(path, formula):
 
 
 def timed(command, seconds):
-    """Status (None past the limit), seconds, peak memory in MB and the text of one run."""
+    """Status (None past the limit), processor seconds, peak memory in MB and the text of one run."""
     with tempfile.TemporaryFile() as text:
-        start = time.monotonic()
         child = subprocess.Popen(['timeout', str(seconds)] + command, stdout=text, stderr=subprocess.DEVNULL)
         _, status, usage = os.wait4(child.pid, 0)
-        took = time.monotonic() - start
+        took = usage.ru_utime + usage.ru_stime
         text.seek(0)
         code = os.waitstatus_to_exitcode(status)
         return None if code == 124 else code, took, usage.ru_maxrss / 1024, text.read().decode(errors='replace')

@@ -9,8 +9,6 @@ use std::sync::Wait;
 use std::test::Fail;
 use std::thread::Threads;
 
-mod check;
-
 /// How many bytes a call reads or writes at most.
 const GRAINS: [usize; 4] = [1, 2, 3, 4096];
 
