@@ -1,14 +1,14 @@
 -- The pieces of a text, one byte more in front.
-use Rattle.std.proofs.Common.{◌≡◌, ℕ, ◌+◌, ◌≤◌, ◌<◌, ◌==◌, Bool, true, false, ◌||◌, cond, List, [], ◌∷◌, ◌++◌, length, refl, sym, ap, ◌∙◌, arith, append_assoc, append-nil, Option, Some, Ok, Err}
+use Rattle.std.proofs.Common.{◌≡◌, ℕ, ◌+◌, ◌≤◌, ◌<◌, ◌==◌, Bool, true, false, cond, List, [], ◌∷◌, ◌++◌, length, refl, sym, ap, ◌∙◌, arith, append_assoc, append-nil, Option, Some, Ok, Err}
 use Rattle.std.proofs.lemmas.Bool.{lt-ltb, le-ltb, eqb-true, ne_eqb}
 use Rattle.cnf_text.specs.declared.fault.CnfFault.TheVariants.{TooLong}
 use Rattle.cnf_text.specs.declared.scan.Place.{Place}
 use Rattle.cnf_text.specs.declared.scan.Place.TheVariants.{LineStart, Comment, Tokens, Ended}
 use Rattle.lit_base.specs.Parts.{Parts, parts_of}
 use Rattle.lit_base.specs.Results.{on_ok}
-use Rattle.lit_base.specs.Lines.{is_line_feed, is_blank, mark_of, is_comment}
+use Rattle.lit_base.specs.Lines.{is_blank, mark_of, is_comment}
 use Rattle.cnf_text.specs.Pieces.{Piece, Token, LineEnd, is_end, tokens, line_tokens, pieces}
-use Rattle.lit_base.proofs.LineParts.{with_byte, parts_of_is, mark_blank, mark_other}
+use Rattle.lit_base.proofs.LineParts.{parts_of_is, mark_blank, mark_other}
 use Rattle.cnf_text.specs.Progress.{ProgressState}
 use Rattle.cnf_text.specs.Judge.{judge, judge_bytes, judge_token, judge_line_end}
 

@@ -1,8 +1,8 @@
 -- A number at the front of a text, and the reader's steps over it.
-use Rattle.std.proofs.Common.{◌≡◌, ℕ, zero, suc, ◌+◌, ◌≤◌, ◌<◌, ◌==◌, Bool, true, false, cond, leb, List, [], ◌∷◌, ◌++◌, length, get_or, take, drop, refl, sym, ap, ◌∙◌, subst, arith, append_assoc, append-nil, length-append, length-take, Result, Ok, Err}
+use Rattle.std.proofs.Common.{◌≡◌, ℕ, ◌+◌, ◌≤◌, ◌<◌, ◌==◌, Bool, true, false, cond, leb, List, [], ◌∷◌, ◌++◌, length, drop, refl, sym, ap, ◌∙◌, arith, append_assoc, append-nil, length-append, Result, Ok, Err}
 use Rattle.std.specs.List.{list_all}
 use Rattle.std.specs.Char.{is_ascii_digit}
-use Rattle.std.proofs.lemmas.List.{drop_more, take-append-drop, nil_from_length}
+use Rattle.std.proofs.lemmas.List.{nil_from_length}
 use Rattle.std.proofs.lemmas.Bool.{lt-leb, and_parts, eqb-true, ne_eqb}
 use Rattle.cnf_text.specs.declared.fault.CnfFault.{CnfFault}
 use Rattle.cnf_text.specs.declared.fault.CnfFault.TheVariants.{TooLong}
@@ -14,6 +14,7 @@ use Rattle.cnf_text.specs.declared.scan.Place.{Place}
 use Rattle.cnf_text.specs.declared.scan.Place.TheVariants.{LineStart, Comment, Tokens, Ended}
 use Rattle.cnf_text.specs.declared.scan.Scan.{Scan}
 use Rattle.lit_base.specs.Results.{on_ok}
+use Rattle.lit_base.proofs.Results.{on_ok-either}
 use Rattle.cnf_text.specs.Faults.{OnFault}
 use Rattle.lit_base.specs.Lines.{is_line_feed, is_blank}
 use Rattle.lit_base.specs.Numeral.{value_from, sign_bytes}
@@ -89,13 +90,7 @@ pub blank_step : (line : ℕ) (p : ProgressState) (token : List ℕ) (blank : �
     → step (in_token line p token) blank ≡ on_ok (judge_token p token line) (λ q. step_blank (in_token line q []) blank)
 blank_step line p token blank is =
     ap (λ t. cond t (cond (is_line_feed blank) (on_ok (end_token (in_token line p token)) end_line) (end_token (in_token line p token))) (push_byte (in_token line p token) blank)) is
-    ∙ by (is_line_feed blank) (judge_token p token line)
-  where
-    by : (t : Bool) (r : Result ProgressState CnfFault) → cond t (on_ok (on_ok r (λ q. Ok (in_token line q []))) end_line) (on_ok r (λ q. Ok (in_token line q []))) ≡ on_ok r (λ q. cond t (end_line (in_token line q [])) (Ok (in_token line q [])))
-    by true (Ok q) = refl
-    by false (Ok q) = refl
-    by true (Err fault) = refl
-    by false (Err fault) = refl
+    ∙ on_ok-either (is_line_feed blank) (judge_token p token line) (λ q. Ok (in_token line q [])) end_line (λ q. Ok (in_token line q []))
 
 -- the class of a numeral's bytes
 pub numeral_class : (positive : Bool) (d : ℕ) (ds : List ℕ) → list_all is_ascii_digit (d ∷ ds) ≡ true → class_of (sign_bytes positive ++ d ∷ ds) ≡ Number positive (value_from 0 (d ∷ ds))

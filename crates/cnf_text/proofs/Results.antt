@@ -1,8 +1,7 @@
 -- Lemmas on steps that may fail.
-use Rattle.std.proofs.Common.{◌≡◌, refl, ◌∙◌, Result, Ok, Err}
+use Rattle.std.proofs.Common.{◌≡◌, ◌∙◌, Result, Ok, Err}
 use Rattle.cnf_text.specs.declared.fault.CnfFault.{CnfFault}
 use Rattle.cnf_text.specs.declared.fault.CnfFault.TheVariants.{NoHeader, BadHeader, BadNumber, VariableAbove, TooManyClauses, TooFewClauses, Unclosed, OverLimit, TooLong, NoMemory}
-use Rattle.lit_base.specs.Results.{on_ok}
 use Rattle.cnf_text.specs.Faults.{OnFault, Judges, Gives}
 
 -- what a fault owes follows from more

@@ -1,7 +1,6 @@
 -- What is written as a formula is read as that formula.
-use Rattle.std.proofs.Common.{◌≡◌, ℕ, ◌+◌, ◌*◌, ◌≤◌, ◌<◌, Bool, true, false, cond, List, [], ◌∷◌, ◌++◌, length, map, refl, sym, ap, ◌∙◌, subst, arith, rules, append_assoc, append-nil, length-append, Result, Ok, Err, codes, decimal, All}
-use Rattle.std.specs.List.{list_all, flat_map, AllByRecursion}
-use Rattle.std.specs.Char.{is_ascii_digit}
+use Rattle.std.proofs.Common.{◌≡◌, ℕ, ◌+◌, ◌*◌, ◌≤◌, ◌<◌, Bool, true, false, cond, List, [], ◌∷◌, ◌++◌, length, map, refl, sym, ap, ◌∙◌, subst, arith, append_assoc, append-nil, length-append, Result, Ok, Err, codes, decimal, All}
+use Rattle.std.specs.List.{flat_map, AllByRecursion}
 use Rattle.std.proofs.lemmas.Bool.{le-ltb, lt-leb, ne_eqb}
 use Rattle.std.proofs.lemmas.List.{length-map}
 use Rattle.std.proofs.lemmas.List.Elements.{recursion_from_All}
@@ -18,7 +17,7 @@ use Rattle.cnf_text.specs.declared.scan.Place.TheVariants.{LineStart, Tokens}
 use Rattle.cnf_text.specs.declared.scan.Scan.{Scan}
 use Rattle.lit_base.specs.Results.{on_ok}
 use Rattle.lit_base.specs.Lines.{is_blank}
-use Rattle.lit_base.specs.Numeral.{value_from, sign_bytes}
+use Rattle.lit_base.specs.Numeral.{sign_bytes}
 use Rattle.cnf_text.specs.Progress.{ProgressState}
 use Rattle.cnf_text.specs.Judge.{nothing, judge_at, judge_token, judge_number, judge_literal}
 use Rattle.cnf_text.specs.Machine.{start, steps, is_between, step_blank, ends_at}

@@ -1,9 +1,10 @@
 -- Digits, and numbers at the front of a text.
-use Rattle.std.proofs.Common.{◌≡◌, ℕ, zero, suc, ◌+◌, ◌-◌, ◌*◌, ◌≤◌, ◌<◌, ◌==◌, ◌^◌, Bool, true, false, leb, List, [], ◌∷◌, ◌++◌, length, get_or, take, drop, refl, sym, ap, ◌∙◌, subst, arith, rules, length-take, decimal}
+use Rattle.std.proofs.Common.{◌≡◌, ℕ, zero, suc, ◌+◌, ◌-◌, ◌*◌, ◌≤◌, ◌<◌, ◌==◌, ◌^◌, true, false, leb, List, [], ◌∷◌, ◌++◌, length, get_or, take, drop, refl, sym, ap, ◌∙◌, subst, arith, rules, length-take, decimal}
 use Rattle.std.specs.List.{list_all}
 use Rattle.std.specs.Char.{is_ascii_digit}
 use Rattle.std.proofs.lemmas.List.{drop_more, take_more, take-append-drop}
 use Rattle.std.proofs.lemmas.Bool.{and_parts, ne_eqb, leb-true}
+use Rattle.std.proofs.Math.Nat.{pow-suc, pow-le-pow_right}
 use Rattle.std.proofs.lemmas.Str.Parse.{IsNumeralModel, numerals_by_fold}
 use Rattle.std.proofs.lemmas.Fmt.{digits_decimal, digits_value-decimal, length-decimal-le, decimal_nonempty}
 use Rattle.lit_base.specs.declared.numeral.Digits.{Digits}
@@ -23,6 +24,24 @@ value_from-append n (d ∷ ds) es = value_from-append (n * 10 + (d - 48)) ds es
 -- the value of one digit more
 pub value_more : (bytes : List ℕ) (i : ℕ) → i < length bytes → value_from 0 (take (i + 1) bytes) ≡ value_from 0 (take i bytes) * 10 + (get_or bytes i 0 - 48)
 value_more bytes i lt = ap (value_from 0) (take_more bytes i 0 lt) ∙ value_from-append 0 (take i bytes) (get_or bytes i 0 ∷ [])
+
+-- so many digits are below a power of ten, and so is one more
+pub digit_below : (i value d : ℕ) → value < 10 ^ i → d ≤ 9 → value * 10 + d < 10 ^ (i + 1)
+digit_below i value d small digit =
+    let next : 10 ^ (i + 1) ≡ 10 ^ i * 10 = ap (λ n. 10 ^ n) (let e : i + 1 ≡ suc i = omega arith in e) ∙ pow-suc 10 i in
+    omega (arith, next)
+
+-- fewer digits are below the power of more
+pub below_power : (i most value : ℕ) → i ≤ most → value < 10 ^ i → value < 10 ^ most
+below_power i most value few small =
+    let power : 10 ^ i ≤ 10 ^ most = pow-le-pow_right (omega arith) few in
+    omega arith
+
+-- 19 digits are a number of 64 bits
+pub digit_fits : (i value d : ℕ) → value < 10 ^ i → d ≤ 9 → i < 19 → value * 10 + d < 2 ^ 64
+digit_fits i value d small digit few =
+    let below = below_power (i + 1) 19 (value * 10 + d) (omega arith) (digit_below i value d small digit) in
+    omega arith
 
 -- a list that isn't empty, by its first item
 pub record IsCons (xs : List ℕ) : Type 0 where

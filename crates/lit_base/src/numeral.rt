@@ -1,4 +1,4 @@
-ghost use Rattle.std.specs.Prelude.{◌≡◌, ◌≤◌, ◌+◌, ◌*◌, ◌<◌, ℕ, IfSome, length};
+ghost use Rattle.std.specs.Prelude.{◌≡◌, ◌≤◌, ◌<◌, ◌^◌, IfSome};
 ghost use Rattle.std.specs.List.{list_all};
 ghost use Rattle.std.specs.Char.{is_ascii_digit};
 ghost use Rattle.lit_base.specs.Lines.{is_blank};
@@ -39,18 +39,17 @@ pub fn is_digits(bytes: &[u8]) -> bool
     bytes.iter().all(|byte| byte.is_ascii_digit())
 }
 
-/// The number that the text begins with, where a blank follows it: an optional `-` and digits.
+/// The number that the text begins with, where a blank follows it: an optional `-` and at most so many digits.
 ///
-/// From a value of `enough` on no more digits are gathered, so a longer number is left out. `enough` is from 1 to 10^17.
+/// A number of more digits is left out. So many digits are a `u64`, whichever they are: `most` is at most 19.
 #[inline(always)]
-pub fn numeral_at_front(bytes: &[u8], enough: u64) -> Option<Numeral>
-    requires some { 1 ≤ enough }
-    requires few { enough ≤ 100000000000000000 }
+pub fn numeral_at_front(bytes: &[u8], most: usize) -> Option<Numeral>
+    requires { most ≤ 19 }
     ensures front { IfSome result (λ numeral. IsAtFront numeral bytes.now) }
-    ensures small { IfSome result (λ numeral. numeral.value < 10 * enough) }
+    ensures small { IfSome result (λ numeral. numeral.value < 10 ^ most) }
 {
     let sign = sign_len(bytes);
-    let digits = leading_digits(&bytes[sign..], enough);
+    let digits = leading_digits(&bytes[sign..], most);
     let len = sign + digits.count;
     if digits.count == 0 || len >= bytes.len() || !is_blank(bytes[len]) {
         return None;
@@ -74,17 +73,17 @@ fn sign_len(bytes: &[u8]) -> usize
     }
 }
 
-/// Digits that the text begins with, up to a value of `enough`.
+/// Digits that the text begins with, at most so many.
 #[inline(always)]
-fn leading_digits(bytes: &[u8], enough: u64) -> Digits
-    requires some { 1 ≤ enough }
-    requires few { enough ≤ 100000000000000000 }
+fn leading_digits(bytes: &[u8], most: usize) -> Digits
+    requires { most ≤ 19 }
     ensures leading { IsLeading result bytes.now }
-    ensures small { result.value < 10 * enough }
+    ensures small { result.value < 10 ^ most }
 {
+    let front = &bytes[..most.min(bytes.len())];
     let mut digits = Digits { value: 0, count: 0 };
-    for byte in bytes {
-        if !byte.is_ascii_digit() || digits.value >= enough {
+    for byte in front {
+        if !byte.is_ascii_digit() {
             return digits;
         }
         digits.value = digits.value * 10 + u64::from(*byte - b'0');

@@ -1,5 +1,5 @@
 -- The class of a token, one byte after the other.
-use Rattle.std.proofs.Common.{◌≡◌, ℕ, ◌+◌, ◌-◌, ◌*◌, ◌≤◌, ◌<◌, ◌==◌, Bool, true, false, ◌&&◌, ◌||◌, cond, leb, ltb, min, List, [], ◌∷◌, ◌++◌, codes, refl, sym, ap, ◌∙◌, subst, arith, Result, Ok, Err}
+use Rattle.std.proofs.Common.{◌≡◌, ℕ, ◌+◌, ◌-◌, ◌*◌, ◌≤◌, ◌<◌, ◌==◌, Bool, true, false, ◌&&◌, cond, leb, min, List, [], ◌∷◌, ◌++◌, codes, refl, sym, ap, ◌∙◌, subst, arith}
 use Rattle.std.specs.Prelude.{nat_eq}
 use Rattle.std.specs.List.{list_all}
 use Rattle.std.specs.Char.{is_ascii_digit}
@@ -8,8 +8,6 @@ use Rattle.std.proofs.lemmas.Bool.{lt-ltb, le-leb, ne_eqb, eqb-true, leb-true, l
 use Rattle.std.proofs.lemmas.List.Folds.{list_all-append}
 use Rattle.lit_base.specs.Numeral.{value_from}
 use Rattle.lit_base.proofs.Numerals.{value_from-append}
-use Rattle.lrat_text.specs.declared.fault.LineFault.{LineFault}
-use Rattle.lrat_text.specs.declared.fault.LineFault.TheVariants.{BadToken}
 use Rattle.lrat_text.specs.declared.token.Token.{Token}
 use Rattle.lrat_text.specs.declared.token.Token.TheVariants.{Empty, Deletion, Minus, Number, Other}
 use Rattle.lrat_text.specs.declared.stage.Stage.{Stage}

@@ -1,8 +1,8 @@
 -- What a reader has read, and what it answers.
-use Rattle.std.proofs.Common.{◌≡◌, ℕ, ◌+◌, ◌-◌, ◌≤◌, ◌<◌, ◌⊎◌, inl, inr, Bool, true, false, cond, ltb, List, [], ◌∷◌, ◌++◌, length, take, min, refl, sym, ap, ◌∙◌, subst, arith, append-nil, length-append, length-take, Option, Some, None, Result, Ok, Err}
+use Rattle.std.proofs.Common.{◌≡◌, ℕ, ◌+◌, ◌≤◌, ◌<◌, ◌⊎◌, inl, inr, Bool, true, false, cond, ltb, List, [], ◌++◌, length, take, min, refl, sym, ap, ◌∙◌, subst, arith, append-nil, length-append, length-take, Option, Some, None, Result, Ok, Err}
 use Rattle.std.proofs.lemmas.Bool.{lt-ltb, le-ltb, ltb-true, ltb-false}
 use Rattle.std.proofs.lemmas.List.{take_all}
-use Rattle.lit_base.specs.Parts.{Parts, parts_of}
+use Rattle.lit_base.specs.Parts.{parts_of}
 use Rattle.lit_base.specs.Lines.{is_line_feed}
 use Rattle.lit_base.specs.Results.{on_ok}
 use Rattle.lit_base.specs.declared.proof.Line.{Line}
@@ -18,10 +18,10 @@ use Rattle.lrat_text.specs.declared.scan.Place.TheVariants.{LineStart, Comment, 
 use Rattle.lrat_text.specs.declared.scan.Scan.{Scan}
 use Rattle.lrat_text.specs.Faults.{OnFault}
 use Rattle.lrat_text.specs.Class.{class_of, capped}
-use Rattle.lrat_text.specs.Judge.{judge_class, judge_token, line_end, line_end_at}
-use Rattle.lrat_text.specs.Reading.{Steps, no_steps, with_line, steps_in, within, end_line_of, with_last_fault, with_long_fault, steps_of, early_steps, proof_steps}
+use Rattle.lrat_text.specs.Judge.{judge_class, judge_token, line_end_at}
+use Rattle.lrat_text.specs.Reading.{Steps, no_steps, with_line, steps_in, within, end_line_of, with_long_fault, steps_of, early_steps, proof_steps}
 use Rattle.lrat_text.specs.State.{ReaderState}
-use Rattle.lrat_text.specs.Machine.{start, step_feed, close_line, end_line, step, step_at, Outcome, no_more, read, line_at, ready_line, is_ready, room_of, ReadsTooMany, FaultOn, PieceTaken, EndRead}
+use Rattle.lrat_text.specs.Machine.{start, step_feed, close_line, end_line, step, step_at, Outcome, no_more, read, line_at, is_ready, room_of, ReadsTooMany, FaultOn, PieceTaken, EndRead}
 use Rattle.lrat_text.specs.Reader.{HasRead, Takes, Ends}
 use Rattle.lrat_text.proofs.Results.{OnFault-weaker}
 use Rattle.lrat_text.proofs.Classes.{token_judged}

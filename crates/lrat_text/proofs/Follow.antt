@@ -1,5 +1,5 @@
 -- The reader's steps follow what the definition says of a text.
-use Rattle.std.proofs.Common.{◌≡◌, ℕ, ◌+◌, ◌≤◌, ◌<◌, ◌==◌, Bool, true, false, cond, leb, List, [], ◌∷◌, ◌++◌, refl, sym, ap, ◌∙◌, arith, append-nil, Option, Some, None, Result, Ok, Err}
+use Rattle.std.proofs.Common.{◌≡◌, ℕ, ◌+◌, ◌≤◌, ◌<◌, ◌==◌, Bool, true, false, cond, leb, List, [], ◌∷◌, ◌++◌, refl, sym, ap, ◌∙◌, arith, append-nil, Some, Result, Ok, Err}
 use Rattle.std.proofs.lemmas.Bool.{leb-true, leb-false}
 use Rattle.lit_base.specs.Parts.{Parts, parts_of}
 use Rattle.lit_base.specs.Lines.{is_line_feed, is_blank}
@@ -7,7 +7,7 @@ use Rattle.lit_base.specs.Results.{on_ok}
 use Rattle.lit_base.specs.declared.proof.Line.{Line}
 use Rattle.lit_base.proofs.LineParts.{with_byte, parts_of_is}
 use Rattle.lrat_text.specs.declared.fault.LineFault.{LineFault}
-use Rattle.lrat_text.specs.declared.fault.LineFault.TheVariants.{Unclosed, LineTooLong}
+use Rattle.lrat_text.specs.declared.fault.LineFault.TheVariants.{LineTooLong}
 use Rattle.lrat_text.specs.declared.stage.Stage.{Stage}
 use Rattle.lrat_text.specs.declared.stage.Stage.TheVariants.{Start, AfterId, Literals, Hints, Ids, Added, Deleted}
 use Rattle.lrat_text.specs.declared.token.Token.TheVariants.{Empty}
@@ -16,9 +16,9 @@ use Rattle.lrat_text.specs.declared.scan.Place.{Place}
 use Rattle.lrat_text.specs.declared.scan.Place.TheVariants.{LineStart, Comment, Tokens, Ready}
 use Rattle.lrat_text.specs.declared.scan.Scan.{Scan}
 use Rattle.lrat_text.specs.Class.{class_of, capped, with_byte_pushed}
-use Rattle.lrat_text.specs.Judge.{nothing, judge_class, judge_token, line_end, line_end_at, line_step}
+use Rattle.lrat_text.specs.Judge.{nothing, judge_class, judge_token, line_end_at, line_step}
 use Rattle.lrat_text.specs.Reading.{Steps, no_steps, with_line, steps_from}
-use Rattle.lrat_text.specs.Machine.{line_start, end_token, step_ready, close_line, end_line, step_feed, step_at_start, step_in_tokens, step_byte, counted, step, step_at, ready_line, Outcome, handed_at, go_on, read, is_ready}
+use Rattle.lrat_text.specs.Machine.{line_start, end_token, close_line, end_line, step_feed, step_at_start, step_in_tokens, step_byte, counted, step, step_at, ready_line, Outcome, handed_at, go_on, read, is_ready}
 use Rattle.lrat_text.proofs.Classes.{class_pushed, token_judged}
 use Rattle.lrat_text.proofs.Content.{open_tokens, blank_at_start, comment_at_start, token_at_start, blank_in_tokens, byte_in_tokens, content_at, line_left, line_left_at_start, moved, failed, too_long, at_line_end}
 

@@ -1,11 +1,12 @@
 -- The reader's steps over a number at the front of a text.
-use Rattle.std.proofs.Common.{◌≡◌, ℕ, ◌+◌, ◌≤◌, ◌<◌, ◌==◌, Bool, true, false, ◌&&◌, cond, leb, min, List, [], ◌∷◌, ◌++◌, length, take, refl, sym, ap, ◌∙◌, subst, arith, append_assoc, append-nil, length-append, Result, Ok, Err}
+use Rattle.std.proofs.Common.{◌≡◌, ℕ, ◌+◌, ◌≤◌, ◌<◌, ◌==◌, Bool, true, false, cond, leb, min, List, [], ◌∷◌, ◌++◌, length, take, refl, sym, ap, ◌∙◌, arith, append_assoc, append-nil, length-append, Result, Ok, Err}
 use Rattle.std.specs.List.{list_all}
 use Rattle.std.specs.Char.{is_ascii_digit}
 use Rattle.std.proofs.lemmas.Bool.{lt-leb, and_parts, ne_eqb}
 use Rattle.lit_base.specs.Lines.{is_line_feed, is_blank}
 use Rattle.lit_base.specs.Results.{on_ok}
-use Rattle.lit_base.specs.Numeral.{value_from, sign_bytes, IsAtFront}
+use Rattle.lit_base.proofs.Results.{on_ok-either}
+use Rattle.lit_base.specs.Numeral.{value_from, sign_bytes}
 use Rattle.lit_base.specs.declared.numeral.Numeral.{Numeral}
 use Rattle.lit_base.proofs.LineParts.{solid_no_feed, take_behind}
 use Rattle.lit_base.proofs.Numerals.{digit_range, digit_is_solid, AreSolid, digits_are_solid}
@@ -18,9 +19,9 @@ use Rattle.lrat_text.specs.declared.scan.Place.{Place}
 use Rattle.lrat_text.specs.declared.scan.Place.TheVariants.{LineStart, Comment, Tokens, Ready}
 use Rattle.lrat_text.specs.declared.scan.Scan.{Scan}
 use Rattle.lrat_text.specs.Faults.{OnFault}
-use Rattle.lrat_text.specs.Class.{class_of, minus_class, digits_class, capped, with_byte_pushed}
+use Rattle.lrat_text.specs.Class.{class_of, capped, with_byte_pushed}
 use Rattle.lrat_text.specs.Judge.{judge_class, judge_number}
-use Rattle.lrat_text.specs.Machine.{end_token, end_line, step_feed, step_at_start, step_in_tokens, step_byte, counted, step, go_on, read, is_empty, is_between, step_blank, step_number, outcome_at, Outcome, IsAhead}
+use Rattle.lrat_text.specs.Machine.{end_token, end_line, step_feed, step_in_tokens, step_byte, counted, step, go_on, read, is_empty, is_between, step_blank, step_number, outcome_at, IsAhead}
 use Rattle.lrat_text.proofs.Results.{OnFault-weaker}
 use Rattle.lrat_text.proofs.Classes.{class_pushed}
 
@@ -80,14 +81,7 @@ blank_step : (line : ℕ) (p : Progress) (token : Token) (count blank : ℕ) →
 blank_step line p token count blank is room =
     ap (λ t. cond (is_line_feed blank) (on_ok (end_token (in_token line p token count)) end_line) (cond t (Err (LineTooLong line)) (step_in_tokens (in_token line p token (count + 1)) blank))) (lt-leb 33554432 count room)
     ∙ ap (λ t. cond (is_line_feed blank) (on_ok (end_token (in_token line p token count)) end_line) (cond t (end_token (in_token line p token (count + 1))) (Ok (in_token line p (with_byte_pushed token blank) (count + 1))))) is
-    ∙ by (is_line_feed blank) (judge_class token p line)
-  where
-    by : (t : Bool) (r : Result Progress LineFault) → cond t (on_ok (on_ok r (λ q. Ok (in_token line q Empty count))) end_line) (on_ok r (λ q. Ok (in_token line q Empty (count + 1))))
-        ≡ on_ok r (λ q. cond t (end_line (in_token line q Empty count)) (Ok (in_token line q Empty (count + 1))))
-    by true (Ok q) = refl
-    by false (Ok q) = refl
-    by true (Err fault) = refl
-    by false (Err fault) = refl
+    ∙ on_ok-either (is_line_feed blank) (judge_class token p line) (λ q. Ok (in_token line q Empty count)) end_line (λ q. Ok (in_token line q Empty (count + 1)))
 
 -- the class of a numeral's bytes
 pub numeral_class : (positive : Bool) (d : ℕ) (ds : List ℕ) → list_all is_ascii_digit (d ∷ ds) ≡ true → class_of (sign_bytes positive ++ d ∷ ds) ≡ Number positive (value_from 0 (d ∷ ds))

@@ -1,10 +1,10 @@
 -- Reading one text behind another, and the lines that it passes.
-use Rattle.std.proofs.Common.{◌≡◌, ℕ, suc, ◌+◌, ◌≤◌, ◌<◌, ◌==◌, Bool, true, false, cond, leb, List, [], ◌∷◌, ◌++◌, length, refl, sym, ap, ◌∙◌, subst, arith, Result, Ok, Err}
+use Rattle.std.proofs.Common.{◌≡◌, ℕ, suc, ◌+◌, ◌==◌, Bool, true, false, cond, leb, List, [], ◌∷◌, ◌++◌, length, refl, sym, ap, ◌∙◌, subst, arith, Result, Ok, Err}
 use Rattle.lit_base.specs.Parts.{Parts, parts_of}
 use Rattle.lit_base.specs.Lines.{is_line_feed, is_blank}
 use Rattle.lit_base.specs.Results.{on_ok}
 use Rattle.lit_base.specs.declared.proof.Line.{Line}
-use Rattle.lit_base.proofs.LineParts.{with_byte, parts_of_is}
+use Rattle.lit_base.proofs.LineParts.{parts_of_is}
 use Rattle.lrat_text.specs.declared.fault.LineFault.{LineFault}
 use Rattle.lrat_text.specs.declared.fault.LineFault.TheVariants.{LineTooLong}
 use Rattle.lrat_text.specs.declared.stage.Stage.{Stage}
@@ -16,7 +16,7 @@ use Rattle.lrat_text.specs.declared.scan.Place.TheVariants.{LineStart, Comment, 
 use Rattle.lrat_text.specs.declared.scan.Scan.{Scan}
 use Rattle.lrat_text.specs.Class.{with_byte_pushed}
 use Rattle.lrat_text.specs.Judge.{judge_class}
-use Rattle.lrat_text.specs.Machine.{line_start, end_token, close_line, end_line, step_feed, step_at_start, step_in_tokens, step_byte, counted, step, ready_line, Outcome, no_more, handed_at, go_on, read, is_ready}
+use Rattle.lrat_text.specs.Machine.{line_start, close_line, end_line, step_feed, step_byte, counted, step, ready_line, Outcome, handed_at, go_on, read, is_ready}
 
 -- lines, and what reading on from behind them gives
 abbrev pub chained : List Line → Result Scan LineFault → (Scan → Outcome) → Outcome

@@ -1,8 +1,7 @@
 -- What answers owe.
-use Rattle.std.proofs.Common.{◌≡◌, ◌∙◌, Result, Ok, Err}
 use Rattle.lrat_text.specs.declared.fault.LineFault.{LineFault}
 use Rattle.lrat_text.specs.declared.fault.LineFault.TheVariants.{BadToken, Unclosed, RatHint, LineTooLong, ProofTooLong, NoMemory}
-use Rattle.lrat_text.specs.Faults.{OnFault, Judges}
+use Rattle.lrat_text.specs.Faults.{OnFault}
 
 -- what a fault owes follows from more
 pub OnFault-weaker : (fault : LineFault) (P Q : Type 0) → (P → Q) → OnFault fault P → OnFault fault Q

@@ -1,5 +1,5 @@
 -- What is written as a log is read as its lemmas.
-use Rattle.std.proofs.Common.{◌≡◌, ℕ, ◌+◌, ◌*◌, ◌≤◌, ◌<◌, ◌==◌, ◌^◌, Bool, true, false, cond, List, [], ◌∷◌, ◌++◌, length, take, map, refl, sym, ap, ◌∙◌, subst, arith, append_assoc, append-nil, length-append, Option, Some, None, Result, Ok, Err, codes, decimal, All}
+use Rattle.std.proofs.Common.{◌≡◌, ℕ, ◌+◌, ◌*◌, ◌≤◌, Bool, true, false, cond, List, [], ◌∷◌, ◌++◌, length, take, map, refl, sym, ap, ◌∙◌, subst, arith, append_assoc, append-nil, length-append, Some, None, Result, Ok, Err, codes, decimal, All}
 use Rattle.std.specs.List.{list_all, flat_map, AllByRecursion}
 use Rattle.std.specs.Char.{is_ascii_digit}
 use Rattle.std.proofs.lemmas.Bool.{le-ltb, lt-leb, ne_eqb, and_parts}
@@ -10,19 +10,18 @@ use Rattle.lit_base.specs.Lines.{is_line_feed, is_blank, mark_of, is_comment}
 use Rattle.lit_base.specs.Parts.{Parts, parts_of}
 use Rattle.lit_base.specs.Results.{on_ok}
 use Rattle.lit_base.specs.Numeral.{sign_bytes}
-use Rattle.lit_base.specs.declared.proof.Line.{Line}
 use Rattle.lit_base.specs.declared.proof.LineStep.TheVariants.{Add}
 use Rattle.lit_base.proofs.LineParts.{parts_of_is, solid_no_feed, mark_other}
 use Rattle.lit_base.proofs.Numerals.{digit_range, digit_is_solid, AreSolid, digits_are_solid, IsDecimal, decimal_is}
 use Rattle.lrat_text.specs.declared.fault.LineFault.{LineFault}
-use Rattle.lrat_text.specs.declared.fault.LineFault.TheVariants.{BadToken, LineTooLong}
+use Rattle.lrat_text.specs.declared.fault.LineFault.TheVariants.{LineTooLong}
 use Rattle.lrat_text.specs.declared.token.Token.TheVariants.{Number}
 use Rattle.lrat_text.specs.declared.stage.Stage.{Stage}
 use Rattle.lrat_text.specs.declared.stage.Stage.TheVariants.{Start, AfterId, Literals, Hints, Added}
 use Rattle.lrat_text.specs.declared.progress.Progress.{Progress}
 use Rattle.lrat_text.specs.Class.{class_of}
 use Rattle.lrat_text.specs.Judge.{nothing, judge_number, judge_literal, judge_class, judge_token, judge_tokens, judge_content, line_end, line_step}
-use Rattle.lrat_text.specs.Reading.{Steps, no_steps, with_line, steps_from, proof_steps}
+use Rattle.lrat_text.specs.Reading.{Steps, with_line, steps_from, proof_steps}
 use Rattle.lrat_text.specs.Written.{NumberedLemma, IsId, CanBeWritten, log_of, additions_from}
 use Rattle.lrat_text.proofs.Fed.{short_steps}
 use Rattle.lrat_text.proofs.Numerals.{numeral_class}

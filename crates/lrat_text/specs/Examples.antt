@@ -1,5 +1,5 @@
 -- Small texts of proofs, and what they are read as.
-use Rattle.std.specs.Prelude.{ℕ, List, [], ◌∷◌, ◌++◌, codes, Option, None, Some}
+use Rattle.std.specs.Prelude.{ℕ, List, [], ◌∷◌, codes, None, Some}
 use Rattle.lit_base.specs.declared.proof.Line.{Line}
 use Rattle.lit_base.specs.Examples.{plain, negated, addition, ending, deletion}
 use Rattle.lrat_text.specs.declared.fault.LineFault.{LineFault}

@@ -1,5 +1,5 @@
 -- What holds of the definitions of reading a proof.
-use Rattle.std.specs.Prelude.{◌≡◌, ℕ, ◌≤◌, List, ◌++◌, length, All, Option, Some, None}
+use Rattle.std.specs.Prelude.{◌≡◌, ℕ, ◌≤◌, List, ◌++◌, length, All, Some, None}
 use Rattle.lit_base.specs.declared.proof.Line.{Line}
 use Rattle.lrat_text.specs.declared.fault.LineFault.{LineFault}
 use Rattle.lrat_text.specs.State.{ReaderState}

@@ -1,4 +1,4 @@
-ghost use Rattle.std.specs.Prelude.{◌≡◌, ℕ, ◌+◌, ◌≤◌, ◌<◌, ◌^◌, length, true, false, IfOk, IfSome};
+ghost use Rattle.std.specs.Prelude.{◌≡◌, ℕ, ◌+◌, ◌≤◌, ◌<◌, ◌^◌, ◌==◌, length, true, false, Ok, IfOk, OnOk, IfSome};
 ghost use Rattle.lrat_text.specs.Faults.{Judges};
 ghost use Rattle.lrat_text.specs.Machine.{start, line_start, end_token, end_line, step_ready, step_feed, step_at_start, step_in_tokens, step, step_number, is_between, is_ready, line_at, behind_line, Passes, PassesLines, IsAhead};
 
@@ -12,8 +12,8 @@ use std::alloc::Global;
 /// The most bytes of a line.
 const MOST_LINE_BYTES: usize = 33_554_432;
 
-/// From this value on no more digits of a number are gathered at once.
-const ENOUGH: u64 = 100_000_000_000_000_000;
+/// The most digits of a number that is read at once.
+const MOST_DIGITS: usize = 18;
 
 /// Where in a line the next byte stands.
 #[derive(Clone, Copy, Debug, PartialEq, Eq)]
@@ -100,32 +100,55 @@ impl Scan {
     fn advance(&mut self, bytes: &[u8]) -> Result<usize, LineFault>
         requires some { 1 ≤ length bytes.now }
         requires lines { self.old.line + length bytes.now < 2 ^ 63 }
+        requires idle { is_ready self.old.place ≡ false }
         ensures reads { Passes self.old bytes.now self.new result }
         ensures some { IfOk result (λ count. 1 ≤ count) }
         ensures within { IfOk result (λ count. count ≤ length bytes.now) }
         ensures lines { PassesLines self.old.line self.new.line (length bytes.now) result }
     {
-        match self.numeral_ahead(bytes) {
-            Some(numeral) => {
-                self.step_number(numeral)?;
-                Ok(numeral.len + 1)
-            }
-            None => {
-                self.step(bytes[0])?;
-                Ok(1)
+        let count = self.pass_numbers(bytes)?;
+        if count > 0 {
+            return Ok(count);
+        }
+        self.step(bytes[0])?;
+        Ok(1)
+    }
+
+    /// Reads the numbers that the bytes begin with, each with the blank behind it, up to the end of the line, and answers
+    /// how many bytes they have. A number that is long or isn't whole yet is left, and so is what follows it.
+    #[inline(always)]
+    fn pass_numbers(&mut self, bytes: &[u8]) -> Result<usize, LineFault>
+        requires lines { self.old.line + length bytes.now < 2 ^ 63 }
+        requires idle { is_ready self.old.place ≡ false }
+        ensures reads { Passes self.old bytes.now self.new result }
+        ensures within { IfOk result (λ count. count ≤ length bytes.now) }
+        ensures none { result ≡ Ok 0 → self.new ≡ self.old }
+        ensures lines { PassesLines self.old.line self.new.line (length bytes.now) result }
+    {
+        if !self.is_between() {
+            return Ok(0);
+        }
+        let mut at = 0;
+        while at < bytes.len() {
+            let Some(numeral) = self.numeral_ahead(&bytes[at..]) else {
+                return Ok(at);
+            };
+            self.step_number(numeral)?;
+            at += numeral.len + 1;
+            if numeral.blank == b'\n' {
+                return Ok(at);
             }
         }
+        Ok(at)
     }
 
     /// The number that the bytes begin with, where it is a whole token within the line's limit. A long one may be left out.
     #[inline(always)]
     fn numeral_ahead(&self, bytes: &[u8]) -> Option<Numeral>
+        requires { is_between self.now.place self.now.token ≡ true }
         ensures { IfSome result (λ numeral. IsAhead self.now numeral bytes.now) }
     {
-        if !self.is_between() {
-            return None;
-        }
-        match numeral_at_front(bytes, ENOUGH) {
+        match numeral_at_front(bytes, MOST_DIGITS) {
             Some(numeral) => {
                 if numeral.len >= MOST_LINE_BYTES.saturating_sub(self.read) {
                     return None;
@@ -154,6 +177,7 @@ impl Scan {
         requires lines { self.old.line < 2 ^ 63 }
         requires room { self.old.read + numeral.len < 33554432 }
         ensures judged { Judges result self.new (step_number self.old numeral.positive numeral.value numeral.len numeral.blank) }
+        ensures between { OnOk result ((numeral.blank == 10) ≡ false → is_between self.new.place self.new.token ≡ true) }
         ensures lines { self.new.line ≤ self.old.line + 1 }
     {
         self.progress

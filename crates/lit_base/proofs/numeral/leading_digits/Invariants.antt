@@ -1,4 +1,4 @@
-use Rattle.std.proofs.Common.{◌≡◌, ◌≤◌, ◌<◌, ◌*◌, take, true}
+use Rattle.std.proofs.Common.{◌≡◌, ◌<◌, ◌^◌, take, true}
 use Rattle.std.specs.List.{list_all}
 use Rattle.std.specs.Char.{is_ascii_digit}
 use Rattle.lit_base.specs.Numeral.{value_from}
@@ -8,7 +8,7 @@ use Rattle.lit_base.proofs.numeral.leading_digits.Given as goal
 abbrev pub invariant-loop-byte : goal.invariant-loop-byte
 invariant-loop-byte l = record {
   count : l.digits.count ≡ l.byte-index;
-  all : list_all is_ascii_digit (take l.byte-index l.bytes) ≡ true;
-  value : l.digits.value ≡ value_from 0 (take l.byte-index l.bytes);
-  small : l.digits.value < 10 * l.enough;
+  all : list_all is_ascii_digit (take l.byte-index l.front) ≡ true;
+  value : l.digits.value ≡ value_from 0 (take l.byte-index l.front);
+  small : l.digits.value < 10 ^ l.byte-index;
 }

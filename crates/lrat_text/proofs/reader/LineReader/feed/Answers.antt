@@ -1,4 +1,4 @@
-use Rattle.std.proofs.Common.{◌+◌, length, ap, sym, ◌∙◌, refl, subst}
+use Rattle.std.proofs.Common.{◌+◌, ap, sym, ◌∙◌, refl, subst}
 use Rattle.lrat_text.specs.State.{ReaderState}
 use Rattle.lrat_text.specs.Machine.{PieceTaken, FaultOn}
 use Rattle.lrat_text.proofs.Fed.{fed_ok, fed_err, no_fault_here}
