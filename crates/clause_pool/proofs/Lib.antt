@@ -15,3 +15,4 @@ pub mod Dropping
 pub mod Fronts
 pub mod Pooling
 pub mod Lookup
+pub mod Tallying

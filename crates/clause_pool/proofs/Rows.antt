@@ -71,7 +71,8 @@ row_at literals (t ∷ newer) s older =
     omega (arith, same, size)))
     ∙ row_at literals newer s older
 
-row_order : (newer : List Slot) (s : Slot) (older : List Slot) → AreEnds (ends_of (newer ++ s ∷ older)) →
+-- a slot ends where it begins or later, and not behind the end of all
+pub row_order : (newer : List Slot) (s : Slot) (older : List Slot) → AreEnds (ends_of (newer ++ s ∷ older)) →
     (end_of (ends_of older) ≤ s.end) × (s.end ≤ end_of (ends_of (newer ++ s ∷ older)))
 row_order [] s older ordered = (ordered.0, omega arith)
 row_order (t ∷ newer) s older ordered =

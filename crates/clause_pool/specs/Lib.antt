@@ -1,4 +1,5 @@
 pub mod Uses
+pub mod Tallies
 pub mod Rising
 pub mod Arena
 pub mod Slots

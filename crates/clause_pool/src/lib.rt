@@ -3,6 +3,7 @@
 
 pub use pool::Pool;
 pub use steps::Steps;
+pub use tally::Tally;
 
 mod arena;
 mod chains;
@@ -12,5 +13,6 @@ mod pool;
 mod slot;
 mod steps;
 mod table;
+mod tally;
 #[cfg(test)]
 mod tests;

@@ -1,17 +1,20 @@
-ghost use Rattle.std.specs.Prelude.{◌≡◌, ◌↔◌, ◌+◌, ◌<◌, ◌^◌, [], ◌∷◌, is_some, IsTrue, IsSome, Some, None, false, All, OnOk, OnErr};
+ghost use Rattle.std.specs.Prelude.{◌≡◌, ◌↔◌, ◌+◌, ◌<◌, ◌^◌, [], ◌∷◌, is_some, IsTrue, IsSome, IfOk, Some, None, false, All, OnOk, OnErr};
 ghost use Rattle.std.specs.Option.{ForSome};
 ghost use Rattle.std.specs.List.{IsDistinct};
+ghost use Rattle.std.specs.List.Sorted.{IsPermutation};
 ghost use Rattle.lit_base.specs.Literal.{same};
 ghost use Rattle.lit_base.specs.Rounds.{original};
 ghost use Rattle.lit_base.specs.Named.{same_name, lits_at};
 ghost use Rattle.lit_base.specs.Held.{clauses_of, is_original, with_clause, with_uses, without_names, volume_of};
 ghost use Rattle.clause_pool.specs.Uses.{uses_of, cleared};
+ghost use Rattle.clause_pool.specs.Tallies.{tallies_but};
 ghost use Rattle.clause_pool.specs.Rising.{IsOrdered, HaveDistinctLits};
 ghost use Rattle.clause_pool.specs.Pooled.{is_front};
 
 use crate::originals::Originals;
 use crate::steps::Steps;
 use crate::table::Table;
+use crate::tally::Tally;
 use lit_base::{Lit, Name, NoMemory};
 use std::alloc::Global;
 use std::marker::Model;
@@ -110,6 +113,17 @@ impl Pool {
     {
         let _ = &self.originals;
         self.table.volume()
+    }
+
+    /// The tallies of the held lemmas, each once, but of those with these names; `NoMemory` where there is no room.
+    ///
+    /// It takes a step for each name and each clause of the pool's table, and none for the originals that are found by index.
+    pub fn tallies(&self, alloc: Global, but: &[Name]) -> Result<Vec<Tally>, NoMemory>
+        ensures tallies { IfOk result (λ tallies. IsPermutation (tallies_but but.now self.now) tallies.items) }
+        ensures ordered { IsOrdered self.now }
+    {
+        let _ = &self.originals;
+        self.table.tallies(alloc, but)
     }
 
     /// How often a held clause was a hint since its uses were cleared.

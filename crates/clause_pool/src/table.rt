@@ -1,15 +1,17 @@
-ghost use Rattle.std.specs.Prelude.{◌≡◌, ◌+◌, ◌<◌, ◌≤◌, ◌^◌, ◌==◌, [], ◌∷◌, ◌++◌, length, reverse, map, take, vec_capacity, vec_len, option_map, is_some, IsSome, Some, OnOk, OnErr};
+ghost use Rattle.std.specs.Prelude.{◌≡◌, ◌+◌, ◌<◌, ◌≤◌, ◌^◌, ◌==◌, [], ◌∷◌, ◌++◌, length, reverse, map, take, vec_capacity, vec_len, option_map, is_some, IsSome, IfOk, Some, OnOk, OnErr};
 ghost use Rattle.std.specs.Option.{ForSome};
 ghost use Rattle.lit_base.specs.Held.{with_uses, without_names, volume_of};
 ghost use Rattle.clause_pool.specs.Arena.{at_place, end_of};
 ghost use Rattle.clause_pool.specs.Slots.{ends_of, row_names, place_at, unlinked, without_count, counted_at, AreApart};
 ghost use Rattle.clause_pool.specs.Links.{IsLinked};
 ghost use Rattle.clause_pool.specs.Uses.{cleared};
+ghost use Rattle.clause_pool.specs.Tallies.{tallies_but};
 
 use crate::arena::{part, weight_of};
 use crate::chains::{begin_chain, find, link_all};
 use crate::packing::{flag, pack};
 use crate::slot::Slot;
+use crate::tally::{Tally, tallies_of};
 use lit_base::{Lit, Name, NoMemory};
 use std::alloc::Global;
 use std::marker::Model;
@@ -115,6 +117,17 @@ impl Table {
     {
         let _ = &self.literals;
         self.slots[place].uses
+    }
+
+    /// The tallies of the lemmas, but of those with these names, the oldest first.
+    pub(crate) fn tallies(&self, alloc: Global, but: &[Name]) -> Result<Vec<Tally>, NoMemory>
+        requires { AreApart (row_names self.now) }
+        ensures { IfOk result (λ tallies. reverse tallies.items ≡ tallies_but but.now self.now) }
+    {
+        let _ = &self.literals;
+        let mut flags = vec![in alloc; false; self.slots.len()]?;
+        flag(&self.heads, &self.slots, but, &mut flags);
+        tallies_of(alloc, &self.slots, &flags)
     }
 
     /// Counts a use of the clause at this place.

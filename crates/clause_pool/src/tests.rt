@@ -83,14 +83,13 @@ fn drop_one(rt: &impl Abort, pool: &mut Pool, name: Name) {
     pool.drop_names(&[name]);
 }
 
-/// Clauses are added, read, counted, dropped and added again.
-fn read_and_dropped<L: Ledger, R: Abort>(rt: &R, alloc: Global, blank: Blank) -> Result<(), Fail>
-    requires name { blank.name ≡ L.name }
-    requires parts { blank.parts ≡ L.parts }
-    requires some { 0 < L.parts }
-{
-    let mut pool = Pool::new(alloc);
-    let mut steps = Steps::<L>::new(blank);
+/// Clauses are added and read.
+fn read<L: Ledger>(
+    rt: &impl Abort,
+    alloc: Global,
+    pool: &mut Pool,
+    steps: &mut Steps<L>,
+) -> Result<(), Fail> {
     let clauses = [
         (Name::original(0), [1, -2].as_slice()),
         (Name::original(1), &[]),
@@ -101,10 +100,10 @@ fn read_and_dropped<L: Ledger, R: Abort>(rt: &R, alloc: Global, blank: Blank) ->
         (Name::lemma(u32::MAX, 31, u32::MAX), &[2, 1]),
     ];
     for (name, numbers) in clauses {
-        add(rt, alloc, &mut pool, name, numbers)?;
+        add(rt, alloc, pool, name, numbers)?;
     }
     for (name, numbers) in clauses {
-        assert!(rt; has(rt, &pool, name, &mut steps, numbers) && uses(rt, &pool, name) == 0);
+        assert!(rt; has(rt, pool, name, steps, numbers) && uses(rt, pool, name) == 0);
     }
     for other in [
         Name::original(3),
@@ -114,31 +113,65 @@ fn read_and_dropped<L: Ledger, R: Abort>(rt: &R, alloc: Global, blank: Blank) ->
         assert!(rt; !pool.held(other));
     }
     assert_eq!(rt; pool.volume(), 3);
-    for counted in [
+    Ok(())
+}
+
+/// Uses of these clauses are counted, and tallied of the lemmas.
+fn counted(rt: &impl Abort, alloc: Global, pool: &mut Pool) -> Result<(), Fail> {
+    for name in [
         Name::lemma(1, 0, 9),
         Name::original(0),
         Name::original(7),
         Name::lemma(1, 0, 9),
         Name::lemma(1, 2, 0),
     ] {
-        count_use(rt, &mut pool, counted);
+        count_use(rt, pool, name);
     }
-    for (counted, times) in [
+    for (name, times) in [
         (Name::lemma(1, 0, 9), 2),
         (Name::original(0), 0),
         (Name::original(7), 0),
         (Name::lemma(1, 2, 0), 1),
     ] {
-        assert_eq!(rt; uses(rt, &pool, counted), times);
+        assert_eq!(rt; uses(rt, pool, name), times);
     }
-    drop_one(rt, &mut pool, Name::lemma(1, 2, 0));
-    assert!(rt; !pool.held(Name::lemma(1, 2, 0)) && pool.volume() == 2);
-    assert_eq!(rt; uses(rt, &pool, Name::lemma(1, 0, 9)), 2);
-    pool.clear_uses();
-    assert_eq!(rt; uses(rt, &pool, Name::lemma(1, 0, 9)), 0);
-    add(rt, alloc, &mut pool, Name::lemma(1, 2, 0), &[6])?;
-    assert!(rt; has(rt, &pool, Name::lemma(1, 2, 0), &mut steps, &[6]) && pool.volume() == 3);
+    let but = [Name::lemma(1, 0, 9), Name::lemma(1, 0, 8)];
+    let tallies = pool.tallies(alloc, &but)?;
+    assert_eq!(rt; tallies.len(), 2);
+    for (tally, size, times) in [(tallies[0], 2, 1), (tallies[1], 2, 0)] {
+        assert!(rt; tally.size == size && tally.uses == times && tally.name.core != 0);
+    }
     Ok(())
+}
+
+/// A clause is dropped and added again, and all uses are cleared.
+fn dropped<L: Ledger>(
+    rt: &impl Abort,
+    alloc: Global,
+    pool: &mut Pool,
+    steps: &mut Steps<L>,
+) -> Result<(), Fail> {
+    drop_one(rt, pool, Name::lemma(1, 2, 0));
+    assert!(rt; !pool.held(Name::lemma(1, 2, 0)) && pool.volume() == 2);
+    assert_eq!(rt; uses(rt, pool, Name::lemma(1, 0, 9)), 2);
+    pool.clear_uses();
+    assert_eq!(rt; uses(rt, pool, Name::lemma(1, 0, 9)), 0);
+    add(rt, alloc, pool, Name::lemma(1, 2, 0), &[6])?;
+    assert!(rt; has(rt, pool, Name::lemma(1, 2, 0), steps, &[6]) && pool.volume() == 3);
+    Ok(())
+}
+
+/// Clauses are added, read, counted, dropped and added again.
+fn read_and_dropped<L: Ledger, R: Abort>(rt: &R, alloc: Global, blank: Blank) -> Result<(), Fail>
+    requires name { blank.name ≡ L.name }
+    requires parts { blank.parts ≡ L.parts }
+    requires some { 0 < L.parts }
+{
+    let mut pool = Pool::new(alloc);
+    let mut steps = Steps::<L>::new(blank);
+    read(rt, alloc, &mut pool, &mut steps)?;
+    counted(rt, alloc, &mut pool)?;
+    dropped(rt, alloc, &mut pool, &mut steps)
 }
 
 /// Many lemmas are added and most dropped, so that the chains grow and the slots are packed; the others stay where they

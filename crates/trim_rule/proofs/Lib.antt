@@ -1,0 +1,4 @@
+pub mod InOrder
+pub mod Ranking
+pub mod Chosen
+pub mod Dropped
