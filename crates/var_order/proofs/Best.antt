@@ -1,12 +1,12 @@
 -- The best of the variables up to one of them.
-use Rattle.std.proofs.Common.{◌≡◌, ℕ, zero, suc, ◌≤◌, Bool, true, false, cond, not, ◌&&◌, List, length, refl, ap, ◌∙◌, sym, subst, arith, ◌⊎◌, inl, inr}
+use Rattle.std.proofs.Common.{◌≡◌, ℕ, zero, suc, ◌≤◌, Bool, true, false, cond, not, ◌&&◌, List, length, refl, ap, subst, arith, ◌⊎◌, inl, inr}
 use Rattle.std.specs.Prelude.{Option, Some, None, nat_lt}
 use Rattle.std.proofs.lemmas.Bool.{and_from, ltb-true, ltb-false}
 use Rattle.lit_base.specs.Trail.{is_free, is_full}
 use Rattle.lit_base.proofs.FullTrail.{not_free}
 use Rattle.lit_base.specs.declared.trail.Entry.{Entry}
 use Rattle.var_order.specs.Order.{activity_at, beats, best_of, pick_of}
-use Rattle.var_order.specs.Laws.{IsChoice, IsBestChoice}
+use Rattle.var_order.specs.Laws.{IsBestChoice}
 
 -- what holds of the variables up to n and of the next one holds of those up to the next one
 up_to_next : (n : ℕ) (P : ℕ → Type 0) → P (suc n) → ((w : ℕ) → 1 ≤ w → w ≤ n → P w) → (w : ℕ) → 1 ≤ w → w ≤ suc n → P w
@@ -130,8 +130,3 @@ best_is_pick activities trail v best = by_pick (pick_of activities trail) refl
         let taken = not_free (length activities) v trail (none_where_full activities trail is) best.choice.low best.choice.high in
         cc (taken, best.choice.free)
     by_pick (Some w) is = ap Some (one_best activities trail v w best (pick_is_best activities trail w is))
-
--- a variable that is picked is within and free
-pub picked_choice : (activities same : List ℕ) (trail : List Entry) (picked : Option ℕ) (v : ℕ) → same ≡ activities → picked ≡ pick_of same trail → picked ≡ Some v → IsChoice activities trail v
-picked_choice activities same trail picked v same_is picked_is is =
-    (pick_is_best activities trail v (ap (λ a. pick_of a trail) (sym same_is) ∙ sym picked_is ∙ is)).choice

@@ -1,1 +1,4 @@
 pub mod Best
+pub mod Heaps
+pub mod Members
+pub mod Picks

@@ -58,8 +58,3 @@ best_of (suc n) activities trail =
 -- the free variable of the greatest activity, and among these of the lowest number; None where no variable is free
 abbrev pub pick_of : List ℕ → List Entry → Option ℕ
 pick_of activities trail = best_of (length activities) activities trail
-
--- what always holds: the lists have one length, at most 1,000,000
-pub record IsOrder (s : OrderState) : Type 0 where
-  pub same : length s.present ≡ length s.activities
-  pub few : length s.activities ≤ 1000000

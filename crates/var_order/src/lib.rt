@@ -4,6 +4,7 @@
 pub use laws::law_pick;
 pub use order::Order;
 
+mod heap;
 mod laws;
 mod order;
 #[cfg(test)]

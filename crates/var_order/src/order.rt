@@ -1,8 +1,9 @@
-ghost use Rattle.std.specs.Prelude.{◌≡◌, ℕ, ◌+◌, ◌≤◌, ◌<◌, ◌^◌, ◌/◌, ◌&&◌, ◌==◌, not, true, false, Option, Some, None, length, map, replicate, IfOk, IfSome, ◌≢◌};
+ghost use Rattle.std.specs.Prelude.{◌≡◌, ℕ, ◌+◌, ◌≤◌, ◌<◌, ◌^◌, true, false, Some, length, IfOk, IfSome, ◌≢◌};
 ghost use Rattle.lit_base.specs.Trail.{is_free};
-ghost use Rattle.var_order.specs.Order.{first_order, activity_at, activity_of, is_present, HasAllFree, bumped, halves, halved, put_back, beats, pick_of};
+ghost use Rattle.var_order.specs.Order.{first_order, activity_at, activity_of, is_present, HasAllFree, bumped, halves, halved, put_back, pick_of};
 ghost use Rattle.var_order.specs.Laws.{IsChoice};
 
+use crate::heap::Heap;
 use lit_base::{List, NoMemory};
 use std::alloc::Global;
 use std::marker::Model;
@@ -11,24 +12,26 @@ use trail_book::Trail;
 /// The variables by activity, from which a core picks the one to decide
 /// (Moskewicz, Madigan, Zhao, Zhang and Malik 2001).
 ///
-/// Memory is taken by `make` alone. A pick and a halving take a step for each variable, every other call a constant
-/// time.
+/// The variables that are in the order stand in a heap. Memory is taken by `make` alone. `put_back` and `bump` take a
+/// step for each level of the heap, at most 20, and so does `pick` for each variable that it takes out; `halve` takes a
+/// step for each variable.
 ///
-/// `activities` and `present` are by variable from 1 on.
+/// `activities` is by variable from 1 on.
 #[derive(Debug, Drop)]
 pub struct Order {
     activities: List<u64>,
-    present: Vec<bool>,
+    heap: Heap,
 }
 
 impl Model for Order {
-    ghost use Rattle.var_order.specs.Order.{OrderState, IsOrder};
+    ghost use Rattle.var_order.specs.Order.{OrderState};
+    ghost use Rattle.var_order.specs.Heap.{order_by, IsIndexed};
 
     ghost Value = { OrderState };
 
-    ghost view = { λ o. record { activities = o.activities; present = o.present.items } };
+    ghost view = { λ o. order_by o.activities o.heap };
 
-    ghost invariant = { λ o. IsOrder (record { activities = o.activities; present = o.present.items }) };
+    ghost invariant = { λ o. IsIndexed o.activities o.heap };
 }
 
 impl Order {
@@ -37,10 +40,11 @@ impl Order {
         requires { length start ≤ 1000000 }
         ensures { IfOk result (λ order. order ≡ first_order start) }
     {
-        let present = all_present(alloc, start.len())?;
+        let mut heap = Heap::make(alloc, start.len())?;
+        heap.rebuild(start.as_slice());
         Ok(Order {
             activities: start,
-            present,
+            heap,
         })
     }
 
@@ -53,6 +57,7 @@ impl Order {
     {
         let raised = activity_at(self.activities.as_slice(), var) + weight;
         self.activities.set(var as usize - 1, raised);
+        self.heap.raise(self.activities.as_slice(), var - 1);
     }
 
     /// Halves each activity, rounded down.
@@ -60,6 +65,7 @@ impl Order {
         ensures { self.new ≡ halved self.old }
     {
         halve_all(&mut self.activities);
+        self.heap.rebuild(self.activities.as_slice());
     }
 
     /// The activity of a variable, from 1 on.
@@ -83,11 +89,13 @@ impl Order {
         ensures fewer { (v : ℕ) → is_present self.new v ≡ true → is_present self.old v ≡ true }
         ensures others { (v : ℕ) → 1 ≤ v → is_free trail.now.entries v ≡ true → result ≢ Some v → is_present self.new v ≡ is_present self.old v }
     {
-        let picked = best_free(self.activities.as_slice(), trail);
-        if let Some(var) = picked {
-            self.present[var as usize - 1] = false;
+        while !self.heap.is_empty() {
+            let var = self.heap.take_best(self.activities.as_slice()) + 1;
+            if trail.is_free(var) {
+                return Some(var);
+            }
         }
-        picked
+        None
     }
 
     /// Puts a variable, from 1 on, into the order, if it is not there.
@@ -97,15 +105,8 @@ impl Order {
         ensures order { self.new ≡ put_back var self.old }
         ensures present { is_present self.new var ≡ true }
     {
-        self.present[var as usize - 1] = true;
+        self.heap.put_back(self.activities.as_slice(), var - 1);
     }
-}
-
-/// So many variables, all of them in the order.
-fn all_present(alloc: Global, count: usize) -> Result<Vec<bool>, NoMemory>
-    ensures { IfOk result (λ present. present.items ≡ replicate count true) }
-{
-    Ok(vec![in alloc; true; count]?)
 }
 
 /// Halves each of the activities.
@@ -124,29 +125,4 @@ fn activity_at(activities: &[u64], var: u32) -> u64
 {
     let place = (var as usize).saturating_sub(1);
     activities.get(place).copied().unwrap_or(0)
-}
-
-/// Whether a variable has a greater activity than the best so far, or is the first.
-fn beats(activities: &[u64], best: Option<u32>, var: u32) -> bool
-    ensures { result ≡ beats activities.now best var }
-{
-    match best {
-        None => true,
-        Some(best) => activity_at(activities, best) < activity_at(activities, var),
-    }
-}
-
-/// The free variable of the greatest activity, and among these of the lowest number.
-fn best_free(activities: &[u64], trail: &Trail) -> Option<u32>
-    requires { length activities.now ≤ 1000000 }
-    ensures { result ≡ pick_of activities.now trail.now.entries }
-{
-    let mut best = None;
-    for place in 0..activities.len() {
-        let var = place as u32 + 1;
-        if trail.is_free(var) && beats(activities, best, var) {
-            best = Some(var);
-        }
-    }
-    best
 }

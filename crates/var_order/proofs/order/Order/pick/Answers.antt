@@ -1,33 +1,30 @@
-use Rattle.std.proofs.Common.{◌≡◌, ◌≤◌, ◌-◌, ℕ, Bool, false, List, get_or, set, ap, ◌∙◌, subst, arith, ◌≢◌, ◌⊎◌, inl, inr}
+use Rattle.std.proofs.Common.{◌≡◌, ◌+◌, ◌<◌, ◌∙◌, ℕ, true, List, ap, sym, subst, arith}
 use Rattle.std.specs.Prelude.{Some}
-use Rattle.std.proofs.lemmas.List.{get_or-set_other}
-use Rattle.var_order.specs.Order.{OrderState, is_present}
-use Rattle.var_order.specs.Laws.{IsChoice}
-use Rattle.var_order.proofs.Best.{picked_choice}
+use Rattle.std.proofs.lemmas.Bool.Decides.{nat_tests}
+use Rattle.lit_base.specs.Trail.{is_free}
+use Rattle.var_order.specs.Order.{pick_of}
+use Rattle.var_order.proofs.Picks.{top_is_picked, none_is_picked}
 use Rattle.var_order.proofs.order.Order.pick.Goals as goal
 
--- the picked variable is within and free
-pub overflow_sub-var : goal.overflow_sub-var
-overflow_sub-var c = (picked_choice c.self.inside.activities _ c.args.trail.now.entries _ c.in-Some.var c.as_slice.ensures c.best_free-picked.ensures c.in-Some.is).low
+-- the variable at the top was free
+pub returns-then-is_free-clause-value : goal.returns-then-is_free-clause-value
+returns-then-is_free-clause-value c =
+    let inside = c.loop-self.self-inside in
+    let trail = c.args.trail.now.entries in
+    let left = c.loop-self.invariant.left in
+    let some : 0 < inside.heap.size = grind (arith, nat_tests) in
+    let taken : is_free trail (c.take_best-var.result + 1) ≡ true = cc in
+    let free = subst (λ (v : ℕ). is_free trail (v + 1) ≡ true) c.take_best-var.ensures.best taken in
+    ap (λ (v : ℕ). Some (v + 1)) c.take_best-var.ensures.best
+    ∙ sym (top_is_picked inside.activities inside.heap trail c.loop-self.invariant.index left.free some free)
+    ∙ ap (λ (activities : List ℕ). pick_of activities trail) left.activities
 
-pub index_mut-requires : goal.index_mut-requires
-index_mut-requires c =
-    let choice = picked_choice c.self.inside.activities _ c.args.trail.now.entries _ c.in-Some.var c.as_slice.ensures c.best_free-picked.ensures c.in-Some.is in
-    omega (arith, choice.low, choice.high, c.self.invariant.same)
-
-pub returns-in-Some-clause-choice : goal.returns-in-Some-clause-choice
-returns-in-Some-clause-choice c =
-    subst (λ (s : OrderState). IsChoice s.activities c.args.trail.now.entries c.in-Some.var) c.self.view_is (picked_choice c.self.inside.activities _ c.args.trail.now.entries _ c.in-Some.var c.as_slice.ensures c.best_free-picked.ensures c.in-Some.is)
-
--- the others stay as they were
-kept : (present : List Bool) (var v : ℕ) → 1 ≤ var → 1 ≤ v → Some var ≢ Some v → get_or (set present (var - 1) false) (v - 1) false ≡ get_or present (v - 1) false
-kept present var v var_low low other = by_number (let split : (var ≡ v) ⊎ ((v - 1) ≢ (var - 1)) = grind arith in split)
-  where
-    by_number : (var ≡ v) ⊎ ((v - 1) ≢ (var - 1)) → get_or (set present (var - 1) false) (v - 1) false ≡ get_or present (v - 1) false
-    by_number (inl is) = absurd (other (ap Some is))
-    by_number (inr apart) = get_or-set_other present (var - 1) (v - 1) false false apart
-
-pub returns-in-Some-clause-others : goal.returns-in-Some-clause-others
-returns-in-Some-clause-others c v low free other =
-    let choice = picked_choice c.self.inside.activities _ c.args.trail.now.entries _ c.in-Some.var c.as_slice.ensures c.best_free-picked.ensures c.in-Some.is in
-    kept c.self.inside.present.items c.in-Some.var v choice.low low other ∙ ap (λ (s : OrderState). is_present s v) c.self.view_is
+-- no variable was left
+pub returns-clause-value : goal.returns-clause-value
+returns-clause-value c =
+    let inside = c.loop-self.self-inside in
+    let trail = c.args.trail.now.entries in
+    let left = c.loop-self.invariant.left in
+    let none : inside.heap.size ≡ 0 = grind (arith, nat_tests) in
+    sym (none_is_picked inside.activities inside.heap trail c.loop-self.invariant.index left.free none)
+    ∙ ap (λ (activities : List ℕ). pick_of activities trail) left.activities
