@@ -2,35 +2,41 @@
 use Rattle.std.proofs.Common.{◌≡◌, ℕ, zero, suc, ◌==◌, ◌+◌, ◌≤◌, ◌<◌, List, [], ◌∷◌, length, length-append, cond, not, ◌&&◌, refl, ap, sym, ◌∙◌, arith}
 use Rattle.std.specs.Prelude.{Option, Some, None, option_map}
 use Rattle.std.proofs.lemmas.Bool.{cond_both, eqb-true, eqb-false, eq-eqb}
-use Rattle.lit_base.specs.Trail.{level_now, first_free}
+use Rattle.lit_base.specs.Trail.{level_now}
+use Rattle.lit_base.specs.Literal.{Literal}
 use Rattle.lit_base.specs.Backjump.{cut}
-use Rattle.lit_base.specs.Held.{HeldClause, clauses_of, is_among, is_original, with_clause, with_uses, volume_of}
+use Rattle.lit_base.specs.Held.{HeldClause, clauses_of, is_among, is_original, with_clause, with_uses, without_names, volume_of}
+use Rattle.clause_pool.specs.Uses.{without_uses, cleared}
 use Rattle.clause_pool.proofs.Volume.{weight_of, weight-le, volume_of-cons, volume_of-with}
 use Rattle.lit_base.specs.Analysis.{lesson_of}
 use Rattle.lit_base.specs.declared.trail.Entry.{Entry}
 use Rattle.lit_base.specs.declared.name.Name.{Name}
 use Rattle.lit_base.specs.declared.lesson.Lesson.{Lesson}
 use Rattle.lit_base.proofs.FixedPoint.{free_count, free_count-le}
+use Rattle.tempo.specs.Tempo.{is_due}
+use Rattle.trim_rule.specs.Reduction.{dropped_names}
+use Rattle.var_order.specs.Order.{best_of}
+use Rattle.var_order.proofs.Best.{best_of-some}
 use Rattle.solo_core.specs.State.{CoreFrame, CoreState}
-use Rattle.solo_core.specs.Turn.{Turned, look_of, propagated, last_literal, lemma_of, learnt, refuted, taught, chosen, turn_by, turn}
+use Rattle.solo_core.specs.Turn.{Turned, look_of, propagated, last_literal, lemma_of, jumped, jumped_back, weighed, is_reduction_due, after_reduction, reduced, with_tempo, paced, learnt, refuted, taught, picked, chosen, turn_by, turn}
 use Rattle.solo_core.specs.declared.turn.TurnEnd.{TurnEnd}
 use Rattle.solo_core.specs.declared.turn.TurnEnd.TheVariants.{Decided, Learnt, Refuted, Modelled}
 use Rattle.solo_core.specs.Stretch.{Stretched, after_turn, search_to_conflict, ended_at_root, after_search, search_to_quota, stretch}
 use Rattle.solo_core.specs.Laws.{EndsByRule, CountsConflicts}
 use Rattle.solo_core.specs.declared.sheet.End.{End}
 use Rattle.solo_core.specs.declared.sheet.End.TheVariants.{Quota, Sat, Unsat, Spent}
-use Rattle.lit_base.proofs.FreeVariables.{free_count-propagate, free_count-decided, first_free-some}
+use Rattle.lit_base.proofs.FreeVariables.{free_count-propagate, free_count-decided}
 use Rattle.lit_base.proofs.Cuts.{level_now-cut-le}
 
 -- a turn that decides takes a free variable
 abbrev TakesOne : CoreFrame → CoreState → Turned → Type 0
 TakesOne frame state t = t.came_to ≡ Decided → free_count frame.variables t.state.trail + 1 ≤ free_count frame.variables state.trail
 
-chosen_takes : (frame : CoreFrame) (state : CoreState) (o : Option ℕ) → first_free frame.variables 1 state.trail ≡ o → TakesOne frame state (chosen state (option_map (last_literal state) o))
+chosen_takes : (frame : CoreFrame) (state : CoreState) (o : Option ℕ) → best_of frame.variables state.activities state.trail ≡ o → TakesOne frame state (chosen state (option_map (last_literal frame state) o))
 chosen_takes frame state None none = λ is. cc
 chosen_takes frame state (Some v) found =
-    let first = first_free-some frame.variables 1 state.trail v found in
-    λ is. free_count-decided frame.variables (last_literal state v) state.trail first.0 first.1 (omega (arith, first.2))
+    let best = best_of-some frame.variables state.activities state.trail v found in
+    λ is. free_count-decided frame.variables (last_literal frame state v) state.trail best.2 best.0 best.1
 
 taught_takes : (frame : CoreFrame) (state : CoreState) (lesson : Lesson) → TakesOne frame state (taught frame state lesson)
 taught_takes frame state lesson =
@@ -38,7 +44,7 @@ taught_takes frame state lesson =
     (λ root is. cc) (λ above is. cc)
 
 turn_by_takes : (frame : CoreFrame) (state : CoreState) (o : Option Name) → TakesOne frame state (turn_by frame state o)
-turn_by_takes frame state None = chosen_takes frame state (first_free frame.variables 1 state.trail) refl
+turn_by_takes frame state None = chosen_takes frame state (best_of frame.variables state.activities state.trail) refl
 turn_by_takes frame state (Some conflict) = taught_takes frame state (lesson_of (look_of state) state.trail conflict)
 
 turn_takes : (frame : CoreFrame) (state : CoreState) → TakesOne frame state (turn frame state)
@@ -97,27 +103,23 @@ conflicts_at Modelled = 0
 abbrev CountedTurn : CoreState → Turned → Type 0
 CountedTurn state t = Counted (conflicts_at t.came_to) state t.state
 
-chosen_counted : (state : CoreState) (o : Option ℕ) → CountedTurn state (chosen state (option_map (last_literal state) o))
+chosen_counted : (state : CoreState) (o : Option Literal) → CountedTurn state (chosen state o)
 chosen_counted state None = record { conflicts = omega arith; in_period = omega arith; lemmas = omega arith; period = refl; volume = omega arith }
-chosen_counted state (Some v) = record { conflicts = omega arith; in_period = omega arith; lemmas = omega arith; period = refl; volume = omega arith }
+chosen_counted state (Some l) = record { conflicts = omega arith; in_period = omega arith; lemmas = omega arith; period = refl; volume = omega arith }
 
-taught_counted : (frame : CoreFrame) (state : CoreState) (lesson : Lesson) → CountedTurn state (taught frame state lesson)
-taught_counted frame state lesson =
-    let one_more = length-append state.lemmas (lemma_of frame state lesson ∷ []) in
-    cond_both (level_now state.trail == 0) (record { state = refuted frame lesson state; came_to = Refuted }) (record { state = learnt frame lesson state; came_to = Learnt }) (CountedTurn state)
-    (λ root. record { conflicts = refl; in_period = refl; lemmas = one_more; period = refl; volume = omega arith })
-    (λ above. record { conflicts = refl; in_period = refl; lemmas = one_more; period = refl; volume = volume_of-held lesson.hints (record { name = (lemma_of frame state lesson).name; lits = lesson.lits; uses = 0 }) state.clauses })
+-- nor does counting uses anew
+volume_of-cleared : (held : List HeldClause) → volume_of (cleared held) ≡ volume_of held
+volume_of-cleared [] = refl
+volume_of-cleared (c ∷ later) = omega (arith, volume_of-cons (without_uses c) (cleared later), volume_of-cons c later, volume_of-cleared later)
 
-turn_by_counted : (frame : CoreFrame) (state : CoreState) (o : Option Name) → CountedTurn state (turn_by frame state o)
-turn_by_counted frame state None = chosen_counted state (first_free frame.variables 1 state.trail)
-turn_by_counted frame state (Some conflict) = taught_counted frame state (lesson_of (look_of state) state.trail conflict)
-
--- propagation has no part in the count
-turn_counted : (frame : CoreFrame) (state : CoreState) → CountedTurn state (turn frame state)
-turn_counted frame state =
-    let p = propagated frame state in
-    let c = turn_by_counted frame (record state { trail = p.trail }) p.conflict in
-    record { conflicts = c.conflicts; in_period = c.in_period; lemmas = c.lemmas; period = c.period; volume = c.volume }
+-- clauses that are dropped add nothing
+volume_of-without : (names : List Name) (held : List HeldClause) → volume_of (without_names names held) ≤ volume_of held
+volume_of-without names [] = omega arith
+volume_of-without names (c ∷ later) =
+    let rest = volume_of-without names later in
+    cond_both (not (is_among names c.name)) (c ∷ without_names names later) (without_names names later) (λ after. volume_of after ≤ volume_of (c ∷ later))
+    (λ kept. omega (arith, rest, volume_of-cons c (without_names names later), volume_of-cons c later))
+    (λ dropped. omega (arith, rest, volume_of-cons c later))
 
 none_counted : (state : CoreState) → Counted 0 state state
 none_counted state = record { conflicts = omega arith; in_period = omega arith; lemmas = omega arith; period = refl; volume = omega arith }
@@ -131,6 +133,54 @@ joined first second sum state l m is one other = record {
   period = cc;
   volume = omega arith;
 }
+
+-- a restart has no conflict, and neither has a reduction
+reduced_counted : (state : CoreState) → Counted 0 state (reduced state)
+reduced_counted state =
+    let names = dropped_names state.clauses state.trail in
+    cond_both (is_reduction_due state) (after_reduction state) state (Counted 0 state)
+    (λ due. record {
+      conflicts = omega arith;
+      in_period = omega arith;
+      lemmas = omega arith;
+      period = refl;
+      volume = omega (arith, volume_of-cleared (without_names names state.clauses), volume_of-without names state.clauses);
+    })
+    (λ early. none_counted state)
+
+paced_counted : (state : CoreState) → Counted 0 state (paced state)
+paced_counted state =
+    let restarted = jumped 0 (with_tempo state) in
+    cond_both (is_due state.tempo) (reduced restarted) (with_tempo state) (Counted 0 state)
+    (λ due. let r = reduced_counted restarted in record { conflicts = r.conflicts; in_period = r.in_period; lemmas = r.lemmas; period = r.period; volume = r.volume })
+    (λ early. record { conflicts = omega arith; in_period = omega arith; lemmas = omega arith; period = refl; volume = omega arith })
+
+taught_counted : (frame : CoreFrame) (state : CoreState) (lesson : Lesson) → CountedTurn state (taught frame state lesson)
+taught_counted frame state lesson =
+    let one_more = length-append state.lemmas (lemma_of frame state lesson ∷ []) in
+    cond_both (level_now state.trail == 0) (record { state = refuted frame lesson state; came_to = Refuted }) (record { state = learnt frame lesson state; came_to = Learnt }) (CountedTurn state)
+    (λ root. record { conflicts = refl; in_period = refl; lemmas = one_more; period = refl; volume = omega arith })
+    (λ above.
+    let after = weighed frame lesson.touched (jumped_back frame lesson state) in
+    let one : Counted 1 state after = record {
+      conflicts = refl;
+      in_period = refl;
+      lemmas = one_more;
+      period = refl;
+      volume = volume_of-held lesson.hints (record { name = (lemma_of frame state lesson).name; lits = lesson.lits; uses = 0 }) state.clauses;
+    } in
+    joined 1 0 1 state after (paced after) (omega arith) one (paced_counted after))
+
+turn_by_counted : (frame : CoreFrame) (state : CoreState) (o : Option Name) → CountedTurn state (turn_by frame state o)
+turn_by_counted frame state None = chosen_counted state (picked frame state)
+turn_by_counted frame state (Some conflict) = taught_counted frame state (lesson_of (look_of state) state.trail conflict)
+
+-- propagation has no part in the count
+turn_counted : (frame : CoreFrame) (state : CoreState) → CountedTurn state (turn frame state)
+turn_counted frame state =
+    let p = propagated frame state in
+    let c = turn_by_counted frame (record state { trail = p.trail }) p.conflict in
+    record { conflicts = c.conflicts; in_period = c.in_period; lemmas = c.lemmas; period = c.period; volume = c.volume }
 
 search_to_conflict_counted : (n : ℕ) (frame : CoreFrame) (state : CoreState) → CountedTurn state (search_to_conflict n frame state)
 search_to_conflict_counted zero frame state = none_counted state

@@ -4,9 +4,9 @@ use Rattle.std.specs.Prelude.{Option, Some, None, IsFalse, nat_le, Result, Ok, E
 use Rattle.std.specs.List.{AllByRecursion}
 use Rattle.std.proofs.lemmas.Bool.{cond_both, cond-true}
 use Rattle.lit_base.specs.Literal.{Literal}
-use Rattle.lit_base.specs.Trail.{level_now}
+use Rattle.lit_base.specs.Trail.{level_now, with_decision}
 use Rattle.lit_base.specs.Backjump.{cut, with_saved, saved_after}
-use Rattle.lit_base.specs.Rounds.{NamedClause}
+use Rattle.lit_base.specs.Rounds.{NamedClause, propagate}
 use Rattle.lit_base.specs.Named.{same_name, lits_at}
 use Rattle.lit_base.specs.Held.{HeldClause, clauses_of, unused, with_clause, with_uses, is_among, with_named}
 use Rattle.lit_base.specs.Quiet.{IsQuiet, AreQuiet, AreQuietBelow}
@@ -17,9 +17,12 @@ use Rattle.lit_base.proofs.HeldClauses.{same_name-itself, lits_at-with, clauses_
 use Rattle.round_prop.specs.Attached.{RoundsState, IsAttached, IsAttachedTo, IsNewTo, IsSettled}
 use Rattle.round_prop.proofs.Follow.{clauses_of-with_clause}
 use Rattle.trail_book.specs.TrailState.{TrailState, jumped}
-use Rattle.solo_core.specs.State.{CoreFrame, CoreState, SearchState}
+use Rattle.var_order.specs.Order.{OrderState, HasAllFree}
+use Rattle.solo_core.specs.State.{CoreFrame, CoreState, SearchState, order_of}
 use Rattle.solo_core.specs.Turn.{decided}
-use Rattle.solo_core.specs.Searching.{IsJoined, IsSearchAt}
+use Rattle.solo_core.specs.Searching.{AreFewUses, AreActivitiesUpTo, most_activity, AreOver, IsOrdered, IsJoined, IsSearchAt}
+use Rattle.solo_core.proofs.RaisedActivities.{up_to_more}
+use Rattle.solo_core.proofs.Orders.{propagated_present}
 
 -- what holds of a state holds of a search that is there
 pub at_search : (P : CoreFrame → CoreState → Type 0) (frame : CoreFrame) (state : CoreState) (s : SearchState) → IsSearchAt frame state s → P frame state → P s.frame s.state
@@ -43,18 +46,37 @@ entry_attached r clauses trail e attached = record {
 pub seen_attached : (r : RoundsState) (clauses : List NamedClause) (trail : List Entry) → IsAttached r clauses [] trail → IsAttachedTo r clauses trail
 seen_attached r clauses trail attached = record { fresh = []; seen = trail; newer = []; attached = attached; older = refl }
 
--- a decision
-pub decided_joined : (s : SearchState) (l : Literal) → IsJoined s → IsJoined (record s { state = decided l s.state })
-decided_joined s l joined = record {
-  variables = joined.variables;
-  rounds_variables = joined.rounds_variables;
-  analyser_variables = joined.analyser_variables;
-  few = joined.few;
+-- a search with this order of variables
+abbrev pub with_order : OrderState → SearchState → SearchState
+with_order order s = record s { state = record s.state { activities = order.activities }; present = order.present }
+
+-- another order with the same activities, in which each variable is that is free on the trail by now
+pub other_order : (n : ℕ) (before after : OrderState) (trail later : List Entry) (conflicts more : ℕ) → conflicts ≤ more → IsOrdered n before trail conflicts → after.activities ≡ before.activities →
+    HasAllFree after later → IsOrdered n after later more
+other_order n before after trail later conflicts more above ordered same present = record {
+  activities = ap (λ (a : List ℕ). length a) same ∙ ordered.activities;
+  present = present;
+  weights = subst (AreActivitiesUpTo (most_activity more)) (sym same) (up_to_more (most_activity conflicts) (most_activity more) before.activities (omega arith) ordered.weights);
+}
+
+pub ordered_joined : (s : SearchState) (order : OrderState) → IsJoined s → order.activities ≡ s.state.activities → HasAllFree order s.state.trail → IsJoined (with_order order s)
+ordered_joined s order joined same present = record {
+  over = joined.over;
+  attached = joined.attached;
+  counts = joined.counts;
+  order = other_order s.frame.variables (order_of s) order s.state.trail s.state.trail s.state.conflicts s.state.conflicts (omega arith) joined.order same present;
+  pace = joined.pace;
+}
+
+-- a decision, after which each free variable is in the order
+pub decided_joined : (s : SearchState) (l : Literal) (order : OrderState) → IsJoined s → order.activities ≡ s.state.activities → HasAllFree order (with_decision l s.state.trail) →
+    IsJoined (with_order order (record s { state = decided l s.state }))
+decided_joined s l order joined same present = record {
+  over = joined.over;
   attached = entry_attached s.rounds (clauses_of s.state.clauses) s.state.trail _ joined.attached;
-  uses = joined.uses;
-  lemmas = joined.lemmas;
-  period_conflicts = joined.period_conflicts;
-  limit = joined.limit;
+  counts = joined.counts;
+  order = other_order s.frame.variables (order_of s) order s.state.trail (with_decision l s.state.trail) s.state.conflicts s.state.conflicts (omega arith) joined.order same present;
+  pace = joined.pace;
 }
 
 -- a cut trail is the rest of the trail
@@ -182,20 +204,66 @@ length-saved_after level (e ∷ older) saved =
     cond_both (nat_le e.level level) saved (saved_after level older (with_saved e saved)) (λ after. length after ≡ length saved) (λ stays. refl)
     (λ leaves. length-saved_after level older (with_saved e saved) ∙ length-set saved (e.lit.variable - 1) (Some e.lit.positive))
 
--- the search after a jump
-abbrev pub after_jump : SearchState → RoundsState → TrailState → SearchState
-after_jump s rounds trail = record s { state = record s.state { trail = trail.entries; saved = trail.saved }; rounds = rounds }
+-- propagation goes over as many variables as before
+pub over_rounds : (n : ℕ) (saved : List (Option Bool)) (before after : RoundsState) (room : ℕ) → AreOver n saved before room → after.variables ≡ before.variables → AreOver n saved after room
+over_rounds n saved before after room over same = record { trail = over.trail; propagation = same ∙ over.propagation; analysis = over.analysis; few = over.few }
 
-pub jumped_joined : (s : SearchState) (rounds : RoundsState) (trail : TrailState) (level : ℕ) → IsJoined s → trail ≡ jumped level (record { entries = s.state.trail; saved = s.state.saved }) →
-    rounds.variables ≡ s.rounds.variables → IsAttachedTo rounds (clauses_of s.state.clauses) trail.entries → IsJoined (after_jump s rounds trail)
-jumped_joined s rounds trail level joined trail_is same attached = record {
-  variables = ap (λ (t : TrailState). length t.saved) trail_is ∙ (length-saved_after level s.state.trail s.state.saved ∙ joined.variables);
-  rounds_variables = same ∙ joined.rounds_variables;
-  analyser_variables = joined.analyser_variables;
-  few = joined.few;
+-- so does the trail after a jump
+pub over_jumped : (n level : ℕ) (before trail : TrailState) (rounds after : RoundsState) (room : ℕ) → AreOver n before.saved rounds room → trail ≡ jumped level before →
+    after.variables ≡ rounds.variables → AreOver n trail.saved after room
+over_jumped n level before trail rounds after room over is same = record {
+  trail = ap (λ (t : TrailState). length t.saved) is ∙ (length-saved_after level before.entries before.saved ∙ over.trail);
+  propagation = same ∙ over.propagation;
+  analysis = over.analysis;
+  few = over.few;
+}
+
+-- the trail of a search
+abbrev pub trail_of : SearchState → TrailState
+trail_of s = record { entries = s.state.trail; saved = s.state.saved }
+
+-- the search after a jump
+abbrev pub after_jump : SearchState → RoundsState → TrailState → OrderState → SearchState
+after_jump s rounds trail order = with_order order (record s { state = record s.state { trail = trail.entries; saved = trail.saved }; rounds = rounds })
+
+pub jumped_joined : (s : SearchState) (rounds : RoundsState) (trail : TrailState) (order : OrderState) (level : ℕ) → IsJoined s → trail ≡ jumped level (trail_of s) →
+    rounds.variables ≡ s.rounds.variables → IsAttachedTo rounds (clauses_of s.state.clauses) trail.entries → order.activities ≡ s.state.activities → HasAllFree order trail.entries →
+    IsJoined (after_jump s rounds trail order)
+jumped_joined s rounds trail order level joined is same attached kept present = record {
+  over = over_jumped s.frame.variables level (trail_of s) trail s.rounds rounds s.analyser joined.over is same;
   attached = attached;
-  uses = joined.uses;
-  lemmas = joined.lemmas;
-  period_conflicts = joined.period_conflicts;
-  limit = joined.limit;
+  counts = joined.counts;
+  order = other_order s.frame.variables (order_of s) order s.state.trail trail.entries s.state.conflicts s.state.conflicts (omega arith) joined.order kept present;
+  pace = joined.pace;
+}
+
+-- propagation frees no variable
+pub propagated_joined : (s : SearchState) (rounds : RoundsState) (trail : List Entry) → IsJoined s → trail ≡ (propagate s.frame.variables (clauses_of s.state.clauses) s.state.trail).trail →
+    rounds.variables ≡ s.rounds.variables → IsAttached rounds (clauses_of s.state.clauses) [] trail → IsJoined (record s { state = record s.state { trail = trail }; rounds = rounds })
+propagated_joined s rounds trail joined is same attached = record {
+  over = over_rounds s.frame.variables s.state.saved s.rounds rounds s.analyser joined.over same;
+  attached = seen_attached rounds (clauses_of s.state.clauses) trail attached;
+  counts = joined.counts;
+  order = other_order s.frame.variables (order_of s) (order_of s) s.state.trail trail s.state.conflicts s.state.conflicts (omega arith) joined.order refl
+      (subst (HasAllFree (order_of s)) (sym is) (propagated_present (order_of s) s.frame.variables (clauses_of s.state.clauses) s.state.trail joined.order.present));
+  pace = joined.pace;
+}
+
+-- clauses were dropped
+pub dropped_joined : (s : SearchState) (rounds : RoundsState) (left : List HeldClause) (reductions : ℕ) → IsJoined s → AreFewUses s.state.conflicts left → rounds.variables ≡ s.rounds.variables →
+    IsAttachedTo rounds (clauses_of left) s.state.trail → reductions ≤ s.state.tempo.t →
+    IsJoined (record s { state = record s.state { clauses = left; reductions = reductions }; rounds = rounds })
+dropped_joined s rounds left reductions joined few same attached low = record {
+  over = over_rounds s.frame.variables s.state.saved s.rounds rounds s.analyser joined.over same;
+  attached = attached;
+  counts = record {
+    uses = few;
+    lemmas = joined.counts.lemmas;
+    period_conflicts = joined.counts.period_conflicts;
+    limit = joined.counts.limit;
+    few_conflicts = joined.counts.few_conflicts;
+    row = joined.counts.row;
+  };
+  order = joined.order;
+  pace = record { restarts = joined.pace.restarts; reductions = low };
 }

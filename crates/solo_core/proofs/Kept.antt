@@ -47,6 +47,6 @@ stretch_ended s after quota ended before is end joined =
           };
       root = λ goes.
           at_search (λ f k. level_now k.trail ≡ 0) s.frame t.state after is
-          (stretch_root s.frame quota s.state before.root before.joined.limit (subst GoesOn end goes));
+          (stretch_root s.frame quota s.state before.root before.joined.counts.limit (subst GoesOn end goes));
       joined = joined;
     }

@@ -5,6 +5,7 @@ pub mod SoundSteps
 pub mod SoundClauses
 pub mod NextPeriod
 pub mod SoundLearnt
+pub mod SoundPaced
 pub mod SoundStretch
 pub mod StretchSound
 pub mod DerivedTrue
@@ -12,10 +13,16 @@ pub mod LogChecks
 pub mod Values
 pub mod CountedUses
 pub mod FirstClauses
-pub mod FirstFree
+pub mod Starts
+pub mod Orders
+pub mod RaisedActivities
+pub mod Dropped
 pub mod Joined
 pub mod Learnt
 pub mod Searched
 pub mod Stretching
 pub mod Kept
 pub mod Sheets
+pub mod HeldPosts
+pub mod NextOpen
+pub mod PostedLemmas

@@ -46,7 +46,7 @@ next_period_others base frame state sound name now other =
     unknown_after base frame state name sound (omega (arith, now)) (λ place same. other (ap (λ n. n.core) same))
 
 -- clauses of earlier periods, each new after those before it
-abbrev AreNew : ℕ → ℕ → List NamedClause → List NamedClause → Type 0
+abbrev pub AreNew : ℕ → ℕ → List NamedClause → List NamedClause → Type 0
 AreNew variables period known [] = ⊤
 AreNew variables period known (c ∷ later) =
     All (IsWithin variables) c.lits × (lits_at known c.name ≡ None) × (c.name.period < period) × AreNew variables period (known ++ c ∷ []) later
@@ -107,7 +107,7 @@ mails_new variables period own core (mail ∷ later) known mails fresh =
     (λ more none. mails_new variables period own (mail.core + 1) later more mails.3 none)
 
 -- what the mails post is new to a core whose period is over
-imports_new : (base : List NamedClause) (frame : CoreFrame) (state : CoreState) (mails : List Mail) → NoneOfOthers base state.period frame.core → AreMails frame.variables state.period frame.core 0 mails →
+pub imports_new : (base : List NamedClause) (frame : CoreFrame) (state : CoreState) (mails : List Mail) → NoneOfOthers base state.period frame.core → AreMails frame.variables state.period frame.core 0 mails →
     AreNew frame.variables (state.period + 1) base (clauses_posted mails)
 imports_new base frame state mails others are = mails_new frame.variables state.period frame.core 0 mails base are (λ name now apart from. others name now apart)
 

@@ -1,8 +1,9 @@
 -- A search that makes its turns one after the other.
 use Rattle.std.proofs.Common.{◌≡◌, ℕ, suc, ◌==◌, ◌<◌, refl, ap, sym, ◌∙◌, subst, arith}
-use Rattle.std.specs.Prelude.{Option, Some, None, option_map, Result, Ok, Err, OnOk}
-use Rattle.std.proofs.lemmas.Bool.{cond_both}
-use Rattle.lit_base.specs.Trail.{level_now, first_free}
+use Rattle.std.specs.Prelude.{Option, Some, None, Result, Ok, Err, OnOk}
+use Rattle.std.proofs.lemmas.Bool.{cond_both, cond-false, ne_eqb}
+use Rattle.lit_base.specs.Literal.{Literal}
+use Rattle.lit_base.specs.Trail.{level_now}
 use Rattle.lit_base.specs.Fits.{IsConflict}
 use Rattle.lit_base.specs.Analysis.{lesson_of}
 use Rattle.lit_base.specs.declared.name.Name.{Name}
@@ -10,7 +11,7 @@ use Rattle.lit_base.specs.declared.lesson.Lesson.{Lesson}
 use Rattle.round_prop.specs.Found.{found_of}
 use Rattle.round_prop.specs.declared.found.Found.TheVariants.{Conflict}
 use Rattle.solo_core.specs.State.{CoreFrame, CoreState, SearchState}
-use Rattle.solo_core.specs.Turn.{Turned, look_of, propagated, last_literal, learnt, refuted, taught, chosen, turn_by, turn}
+use Rattle.solo_core.specs.Turn.{Turned, look_of, propagated, picked, learnt, refuted, taught, chosen, turn_by, turn}
 use Rattle.solo_core.specs.declared.turn.TurnEnd.{TurnEnd}
 use Rattle.solo_core.specs.declared.turn.TurnEnd.TheVariants.{Decided, Learnt, Refuted, Modelled}
 use Rattle.solo_core.specs.Changes.{after_propagation}
@@ -58,13 +59,20 @@ pub conflict_turned-on_ok : {T E : Type 0} (r : Result T E) (s found after : Sea
 conflict_turned-on_ok (Ok x) s found after name is conflict taught_is = conflict_turned s found after name is conflict taught_is
 conflict_turned-on_ok (Err e) s found after name is conflict taught_is = tt
 
+-- above level 0 a lesson is learnt
+pub taught_above : (frame : CoreFrame) (state : CoreState) (lesson : Lesson) → (level_now state.trail ≡ 0 → ⊥) → (taught frame state lesson).state ≡ learnt frame lesson state
+taught_above frame state lesson above =
+    ap (λ (t : Turned). t.state)
+    (cond-false (level_now state.trail == 0) (record { state = refuted frame lesson state; came_to = Refuted }) (record { state = learnt frame lesson state; came_to = Learnt })
+    (ne_eqb (level_now state.trail) 0 above))
+
 -- a turn that decides has no conflict
 abbrev CountsNone : CoreState → Turned → Type 0
 CountsNone state t = t.came_to ≡ Decided → t.state.conflicts ≡ state.conflicts
 
-chosen_counts : (state : CoreState) (o : Option ℕ) → CountsNone state (chosen state (option_map (last_literal state) o))
+chosen_counts : (state : CoreState) (o : Option Literal) → CountsNone state (chosen state o)
 chosen_counts state None is = refl
-chosen_counts state (Some v) is = refl
+chosen_counts state (Some l) is = refl
 
 taught_counts : (frame : CoreFrame) (state : CoreState) (lesson : Lesson) → CountsNone state (taught frame state lesson)
 taught_counts frame state lesson =
@@ -72,7 +80,7 @@ taught_counts frame state lesson =
     (λ root is. cc) (λ above is. cc)
 
 turn_by_counts : (frame : CoreFrame) (state : CoreState) (o : Option Name) → CountsNone state (turn_by frame state o)
-turn_by_counts frame state None = chosen_counts state (first_free frame.variables 1 state.trail)
+turn_by_counts frame state None = chosen_counts state (picked frame state)
 turn_by_counts frame state (Some conflict) = taught_counts frame state (lesson_of (look_of state) state.trail conflict)
 
 turn_counts : (frame : CoreFrame) (state : CoreState) → CountsNone state (turn frame state)

@@ -99,7 +99,7 @@ quiet_at_root : (trail : List Entry) (clauses : List NamedClause) → level_now 
 quiet_at_root trail clauses root level low = absurd (omega (arith, root))
 
 -- a clause of an earlier period that isn't known isn't held
-added_free : (base : List NamedClause) (frame : CoreFrame) (state : CoreState) (c : NamedClause) → IsSound base frame state → lits_at base c.name ≡ None → c.name.period < state.period →
+pub added_free : (base : List NamedClause) (frame : CoreFrame) (state : CoreState) (c : NamedClause) → IsSound base frame state → lits_at base c.name ≡ None → c.name.period < state.period →
     lits_at (clauses_of state.clauses) c.name ≡ None
 added_free base frame state c sound new before =
     missed_before (look_of state) (lits_at (base ++ lemma_clauses state.lemmas)) c.name sound.derives.carried

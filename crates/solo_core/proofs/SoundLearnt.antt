@@ -29,7 +29,7 @@ use Rattle.solo_core.proofs.SoundSteps.{jumped_sound, uses_sound}
 use Rattle.solo_core.proofs.SoundClauses.{missed_before, carried_with}
 use Rattle.solo_core.specs.declared.lemma.Lemma.{Lemma}
 use Rattle.solo_core.specs.State.{CoreFrame, CoreState, lemma_name, lemma_clause, lemma_clauses}
-use Rattle.solo_core.specs.Turn.{look_of, lemma_of, with_lemma, with_held, jumped, learnt}
+use Rattle.solo_core.specs.Turn.{look_of, lemma_of, with_lemma, with_held, jumped, jumped_back}
 use Rattle.solo_core.specs.Soundness.{IsDerived, HasLiterals, IsSound, HoldsFormula}
 
 -- the clauses of one lemma more
@@ -140,15 +140,15 @@ lesson_next base frame state lesson sound asserting few derived = record {
       subst (λ t. IsQuiet t lesson.lits) (sym (cut_cut level lesson.back state.trail (omega (arith, below)))) (asserting.quiet_before level below);
 }
 
--- an asserting lesson is learnt
-pub learnt_sound : (base : List NamedClause) (frame : CoreFrame) (state : CoreState) (lesson : Lesson) → IsSound base frame state → IsAsserting state.trail lesson → IsOfFew frame lesson →
+-- the lemma of an asserting lesson is held after the jump back
+pub jumped_back_sound : (base : List NamedClause) (frame : CoreFrame) (state : CoreState) (lesson : Lesson) → IsSound base frame state → IsAsserting state.trail lesson → IsOfFew frame lesson →
     IsDerived (look_of state) (lemma_of frame state lesson) →
-    IsSound base frame (learnt frame lesson state)
-learnt_sound base frame state lesson sound asserting few derived =
+    IsSound base frame (jumped_back frame lesson state)
+jumped_back_sound base frame state lesson sound asserting few derived =
     next_sound base frame (jumped lesson.back state) (lemma_of frame state lesson) (jumped_sound base frame state lesson.back sound) (lesson_next base frame state lesson sound asserting few derived)
 
-pub learnt_holds : (cnf : Cnf) (base : List NamedClause) (frame : CoreFrame) (state : CoreState) (lesson : Lesson) → IsSound base frame state → HoldsFormula cnf state → HoldsFormula cnf (learnt frame lesson state)
-learnt_holds cnf base frame state lesson sound holds =
+pub jumped_back_holds : (cnf : Cnf) (base : List NamedClause) (frame : CoreFrame) (state : CoreState) (lesson : Lesson) → IsSound base frame state → HoldsFormula cnf state → HoldsFormula cnf (jumped_back frame lesson state)
+jumped_back_holds cnf base frame state lesson sound holds =
     let lemma = lemma_of frame state lesson in
     let known = base ++ lemma_clauses state.lemmas in
     let free : lits_at (clauses_of state.clauses) lemma.name ≡ None = missed_before (look_of state) (lits_at known) lemma.name sound.derives.carried (next_free base frame state lemma sound refl) in

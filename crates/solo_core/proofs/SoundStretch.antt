@@ -7,7 +7,7 @@ use Rattle.std.proofs.lemmas.List.Elements.{All-head, All-tail}
 use Rattle.lit_base.specs.Literal.{Literal, IsWithin}
 use Rattle.lit_base.specs.Cnf.{Cnf}
 use Rattle.lit_base.specs.Truth.{is_clause_true}
-use Rattle.lit_base.specs.Trail.{is_full, model_of, level_now, first_free}
+use Rattle.lit_base.specs.Trail.{is_full, model_of, level_now}
 use Rattle.lit_base.specs.Rounds.{NamedClause}
 use Rattle.lit_base.specs.Named.{lits_at}
 use Rattle.lit_base.specs.Held.{clauses_of}
@@ -20,10 +20,12 @@ use Rattle.lit_base.proofs.FullTrail.{clause_true}
 use Rattle.lit_base.proofs.PropagationFits.{propagation_fits}
 use Rattle.lit_base.proofs.FixIsQuiet.{fix_quiet}
 use Rattle.lit_base.proofs.RootLesson.{root_lesson_empty}
-use Rattle.lit_base.proofs.FreeVariables.{first_free-some, first_free-none}
+use Rattle.var_order.specs.Order.{best_of}
+use Rattle.var_order.proofs.Best.{best_of-some, best_of-none}
 use Rattle.solo_core.proofs.Derived.{derived_by_more, derived_one_more, named_one_more, distinct_one_more, within_one_more}
 use Rattle.solo_core.proofs.SoundSteps.{propagated_sound, decided_sound, jumped_sound}
-use Rattle.solo_core.proofs.SoundLearnt.{lesson_few, lesson_derived, learnt_sound, learnt_holds, conflict_two, conflict_asserting}
+use Rattle.solo_core.proofs.SoundLearnt.{lesson_few, lesson_derived, conflict_two, conflict_asserting}
+use Rattle.solo_core.proofs.SoundPaced.{learnt_sound, learnt_holds}
 use Rattle.solo_core.specs.State.{CoreFrame, CoreState, lemma_name, lemma_clauses}
 use Rattle.solo_core.specs.Turn.{Turned, look_of, propagated, last_literal, lemma_of, learnt, refuted, taught, chosen, turn_by, turn}
 use Rattle.solo_core.specs.declared.turn.TurnEnd.{TurnEnd}
@@ -67,22 +69,22 @@ clauses_true n trail (c ∷ others) full within quiet = (
   clauses_true n trail others full (All-tail (λ d. All (IsWithin n) d.lits) c others within) quiet.1,
 )
 
--- after propagation without a conflict: a decision of the first free variable, or a model
+-- after propagation without a conflict: a decision of a free variable, or a model
 chosen_kept : (base : List NamedClause) (frame : CoreFrame) (state : CoreState) → IsSound base frame state → (propagated frame state).conflict ≡ None → (o : Option ℕ) →
-    first_free frame.variables 1 (propagated frame state).trail ≡ o →
-    IsTurnKept base frame state (chosen (after_propagation frame state) (option_map (last_literal (after_propagation frame state)) o))
+    best_of frame.variables state.activities (propagated frame state).trail ≡ o →
+    IsTurnKept base frame state (chosen (after_propagation frame state) (option_map (last_literal frame (after_propagation frame state)) o))
 chosen_kept base frame state sound none None full =
     let moved = propagated_sound base frame state sound in
-    let is : is_full frame.variables (propagated frame state).trail ≡ true = first_free-none frame.variables (propagated frame state).trail full in
+    let is : is_full frame.variables (propagated frame state).trail ≡ true = best_of-none frame.variables state.activities (propagated frame state).trail full in
     let quiet = fix_quiet frame.variables (clauses_of state.clauses) state.trail sound.holds.within none in
     record {
       sound = (moved, record { full = is; satisfied = clauses_true frame.variables (propagated frame state).trail (clauses_of state.clauses) is sound.holds.within quiet });
       formulas = λ cnf holds. holds;
     }
 chosen_kept base frame state sound none (Some v) found =
-    let first = first_free-some frame.variables 1 (propagated frame state).trail v found in
+    let best = best_of-some frame.variables state.activities (propagated frame state).trail v found in
     record {
-      sound = decided_sound base frame state (last_literal (after_propagation frame state) v) sound none (first.1, omega (arith, first.2)) first.0;
+      sound = decided_sound base frame state (last_literal frame (after_propagation frame state) v) sound none (best.0, best.1) best.2;
       formulas = λ cnf holds. holds;
     }
 
@@ -123,7 +125,7 @@ propagated_conflict base frame state conflict sound is =
 
 turn_by_kept : (base : List NamedClause) (frame : CoreFrame) (state : CoreState) → IsSound base frame state → (o : Option Name) → (propagated frame state).conflict ≡ o →
     IsTurnKept base frame state (turn_by frame (after_propagation frame state) o)
-turn_by_kept base frame state sound None is = chosen_kept base frame state sound is (first_free frame.variables 1 (propagated frame state).trail) refl
+turn_by_kept base frame state sound None is = chosen_kept base frame state sound is (best_of frame.variables state.activities (propagated frame state).trail) refl
 turn_by_kept base frame state sound (Some conflict) is =
     let kept = taught_kept base frame (after_propagation frame state) conflict (propagated_sound base frame state sound) (propagated_conflict base frame state conflict sound is) in
     record { sound = kept.sound; formulas = kept.formulas }

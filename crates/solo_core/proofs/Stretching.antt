@@ -84,7 +84,7 @@ stretch_goes_on frame whole left less s found after e is stretching found_is end
         sound = at_search (λ f k. IsSound stretching.ready.base f k) s.frame t.state after next.0
             (searched_sound stretching.ready.base s.frame s.state stretching.ready.sound (λ refutes. let clash : Learnt ≡ Refuted = sym next.1 ∙ refutes in cc));
         joined = joined;
-        left = let low = joined.limit in
+        left = let low = joined.counts.limit in
             let apart : after.state.conflicts ≡ after.frame.limit → ⊥ = at_search (λ f k. k.conflicts ≡ f.limit → ⊥) s.frame t.state after next.0 next.2 in omega arith;
       };
       frame_is = next.0.0 ∙ stretching.frame_is;

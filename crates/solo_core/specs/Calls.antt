@@ -1,13 +1,14 @@
 -- What the calls of a core leave, and what its search keeps from one call to the next.
-use Rattle.std.specs.Prelude.{ℕ, ◌≡◌, ◌≢◌, ⊤, true, List, [], Option, Some, None}
+use Rattle.std.specs.Prelude.{ℕ, ◌≡◌, ◌≢◌, ⊤, true, false, List, [], Option, Some, None}
 use Rattle.lit_base.specs.Trail.{level_now}
 use Rattle.lit_base.specs.Rounds.{NamedClause}
 use Rattle.solo_core.specs.State.{CoreValue, SearchState}
 use Rattle.solo_core.specs.Stretch.{stretch}
-use Rattle.solo_core.specs.Period.{in_next_period, NoneOfOthers}
+use Rattle.solo_core.specs.Period.{in_next_period, core_after_import, NoneOfOthers}
 use Rattle.solo_core.specs.Soundness.{IsSound}
 use Rattle.solo_core.specs.Searching.{IsJoined}
 use Rattle.solo_core.specs.declared.sheet.End.{End}
+use Rattle.solo_core.specs.declared.sheet.Mail.{Mail}
 use Rattle.solo_core.specs.declared.sheet.End.TheVariants.{Quota, Sat, Unsat, Spent}
 
 -- the core after a stretch
@@ -18,6 +19,10 @@ after_stretch quota c =
 -- the core after its sheet was given: the lemmas of the period are moved out
 abbrev pub after_sheet : CoreValue → CoreValue
 after_sheet c = record c { state = record c.state { lemmas = [] }; is_handed = true }
+
+-- the core after it imported what these mails post: it is at the start of the next period
+abbrev pub after_import : List Mail → CoreValue → CoreValue
+after_import mails c = record c { state = core_after_import mails c.state; ended = None; is_handed = false }
 
 -- a search at the start of a period: it is sound, at level 0, and its parts are joined
 pub record IsOpen (s : SearchState) : Type 0 where
@@ -39,6 +44,11 @@ GoesOn Quota = ⊤
 GoesOn Spent = ⊤
 GoesOn Sat = ⊥
 GoesOn Unsat = ⊥
+
+-- no answer was found in the period, whether its stretch was made or not
+abbrev pub HasNoAnswer : Option End → Type 0
+HasNoAnswer None = ⊤
+HasNoAnswer (Some ended) = GoesOn ended
 
 -- a search whose stretch of the period ended so: unless it refuted it is sound for the next period, and without an
 -- answer it is at level 0

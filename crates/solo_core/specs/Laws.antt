@@ -61,6 +61,13 @@ stepped = record {
   clauses = (plain 1 ∷ plain 2 ∷ plain 3 ∷ []) ∷ (plain 1 ∷ plain 2 ∷ negated 3 ∷ []) ∷ [];
 }
 
+-- three clauses whose first conflict touches variables 2 and 3, and not variable 1
+abbrev pub aside : Cnf
+aside = record {
+  variables = 3;
+  clauses = (plain 2 ∷ plain 3 ∷ []) ∷ (plain 2 ∷ negated 3 ∷ []) ∷ (plain 1 ∷ negated 2 ∷ negated 3 ∷ []) ∷ [];
+}
+
 -- the lemma of core 0 at this place in period 1
 abbrev pub learnt_lemma : ℕ → List Literal → List Name → Lemma
 learnt_lemma index lits hints = record { name = lemma_name 1 0 index; lits = lits; hints = hints }

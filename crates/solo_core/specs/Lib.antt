@@ -2,6 +2,7 @@ pub mod State
 pub mod First
 pub mod Turn
 pub mod Stretch
+pub mod Posts
 pub mod Sheet
 pub mod Soundness
 pub mod Changes

@@ -4,7 +4,7 @@ use Rattle.std.specs.List.{IsDistinct}
 use Rattle.lit_base.specs.Literal.{IsWithin, same}
 use Rattle.lit_base.specs.Rounds.{NamedClause}
 use Rattle.lit_base.specs.Named.{lits_at}
-use Rattle.lit_base.specs.Held.{HeldClause, unused, with_clause}
+use Rattle.lit_base.specs.Held.{HeldClause, clauses_of, unused, with_clause}
 use Rattle.lit_base.specs.declared.name.Name.{Name}
 use Rattle.solo_core.specs.State.{CoreState, lemma_name}
 use Rattle.solo_core.specs.Changes.{with_clauses}
@@ -36,6 +36,13 @@ clauses_posted (mail ∷ later) = map posted_clause mail.posted ++ clauses_poste
 abbrev pub with_unused : List NamedClause → List HeldClause → List HeldClause
 with_unused [] held = held
 with_unused (c ∷ later) held = with_unused later (with_clause (unused c) held)
+
+-- clauses that can be held one after the other: each has distinct literals, and a name under which none is held when its
+-- turn comes
+abbrev pub AreNewTo : List HeldClause → List NamedClause → Type 0
+AreNewTo held [] = ⊤
+AreNewTo held (c ∷ later) =
+    (lits_at (clauses_of held) c.name ≡ None) × IsDistinct same c.lits × AreNewTo (with_clause (unused c) held) later
 
 -- a core that holds these clauses too
 abbrev pub with_more : List NamedClause → CoreState → CoreState

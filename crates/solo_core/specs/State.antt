@@ -5,6 +5,9 @@ use Rattle.lit_base.specs.Held.{HeldClause}
 use Rattle.lit_base.specs.declared.trail.Entry.{Entry}
 use Rattle.lit_base.specs.declared.name.Name.{Name}
 use Rattle.round_prop.specs.Attached.{RoundsState}
+use Rattle.var_order.specs.Order.{OrderState}
+use Rattle.tempo.specs.Tempo.{TempoState}
+use Rattle.core_rows.specs.declared.row.Row.{Row}
 use Rattle.solo_core.specs.declared.lemma.Lemma.{Lemma}
 use Rattle.solo_core.specs.declared.sheet.End.{End}
 
@@ -16,8 +19,12 @@ pub record CoreFrame : Type 0 where
   pub variables : ℕ
   -- its own number, from 0
   pub core : ℕ
+  -- the literals that a clause which it posts has at most
+  pub share : ℕ
   -- the conflicts that it may have in the whole run
   pub limit : ℕ
+  -- its row: the settings by which it differs from the other cores
+  pub row : Row
 
 -- what a core has
 pub record CoreState : Type 0 where
@@ -35,6 +42,12 @@ pub record CoreState : Type 0 where
   pub period_conflicts : ℕ
   -- the lemmas of this period, the oldest first
   pub lemmas : List Lemma
+  -- for each variable from 1 on its activity
+  pub activities : List ℕ
+  -- which conflict makes the next restart due
+  pub tempo : TempoState
+  -- the reductions that it made in the whole run
+  pub reductions : ℕ
 
 -- == the search that follows these rules, and the core around it ==
 
@@ -46,6 +59,12 @@ pub record SearchState : Type 0 where
   pub rounds : RoundsState
   -- for how many variables conflict analysis has room
   pub analyser : ℕ
+  -- for each variable from 1 on whether it is in the order from which variables are picked
+  pub present : List Bool
+
+-- the order of variables that a search picks from
+abbrev pub order_of : SearchState → OrderState
+order_of s = record { activities = s.state.activities; present = s.present }
 
 -- a core
 pub record CoreValue : Type 0 where

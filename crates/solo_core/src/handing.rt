@@ -3,6 +3,7 @@ ghost use Rattle.lit_base.specs.Trail.{sign_of, value_or_false, model_of};
 ghost use Rattle.solo_core.specs.Sheet.{mail_of, model_at};
 
 use crate::lemma::Lemma;
+use crate::posting::posts_of;
 use crate::search::Search;
 use crate::sheet::{End, Mail};
 use lit_base::{List, Model, NoMemory};
@@ -20,18 +21,19 @@ impl Search {
     }
 }
 
-/// The mail of a search whose stretch ended so; it posts no clause yet.
-pub(crate) fn mail_of(search: &Search, end: End) -> Mail
-    ensures { result ≡ mail_of search.now.frame (record { state = search.now.state; ended = end }) }
+/// The mail of a search whose stretch ended so.
+pub(crate) fn mail_of(search: &Search, end: End) -> Result<Mail, NoMemory>
+    ensures { IfOk result (λ mail. mail ≡ mail_of search.now.frame (record { state = search.now.state; ended = end })) }
 {
-    Mail {
+    let posted = posts_of(search.alloc, search.share, search.lemmas.as_slice())?;
+    Ok(Mail {
         core: search.core,
         period: search.period,
         end,
         conflicts: search.period_conflicts,
         volume: search.pool.volume(),
-        posted: List::new(search.alloc),
-    }
+        posted,
+    })
 }
 
 /// The model of a search whose stretch ended so: its trail where that was a model, else none.

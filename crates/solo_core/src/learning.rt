@@ -1,26 +1,22 @@
-//! What a conflict teaches: its lemma is recorded, and above level 0 it is held and attached after the jump back.
+//! What a conflict teaches: its lemma is recorded, and above level 0 it is held and attached after the jump back, before
+//! activities change and the core may restart.
 ghost use Rattle.std.specs.Prelude.{◌≡◌, ◌<◌, ◌≤◌, ◌^◌, IfOk, OnOk, IsSome, List, None, length};
 ghost use Rattle.std.specs.List.{AllByRecursion, IsDistinct};
 ghost use Rattle.lit_base.specs.Trail.{level_now};
 ghost use Rattle.lit_base.specs.Named.{lits_at, same_name};
 ghost use Rattle.lit_base.specs.Held.{HeldClause, clauses_of, with_clause, with_uses};
 ghost use Rattle.lit_base.specs.Fits.{IsConflict};
-ghost use Rattle.lit_base.specs.Quiet.{AreQuietBelow};
 ghost use Rattle.lit_base.specs.Analysis.{lesson_of};
-ghost use Rattle.lit_base.specs.Rounds.{NamedClause};
-ghost use Rattle.round_prop.specs.Attached.{IsAttachedTo};
-ghost use Rattle.trail_book.specs.TrailState.{jumped};
 ghost use Rattle.solo_core.specs.State.{lemma_name};
-ghost use Rattle.solo_core.specs.Turn.{look_of, taught, refuted, learnt, with_lemma};
+ghost use Rattle.solo_core.specs.Turn.{look_of, taught, refuted, jumped_back, learnt, with_lemma};
 ghost use Rattle.solo_core.specs.Searching.{IsJoined, IsReady, IsSearchAt, IsLesson};
 
 use crate::holding::hold_lemma;
+use crate::jump::jump_back;
 use crate::lemma::Lemma;
 use crate::search::Search;
 use crate::turn::TurnEnd;
-use lit_base::{Lesson, Name, NoMemory};
-use round_prop::Rounds;
-use trail_book::Trail;
+use lit_base::{Lesson, List, Name, NoMemory};
 
 impl Search {
     /// Learns from a conflict of propagation: at level 0 it refutes, and above the core jumps back.
@@ -58,7 +54,8 @@ impl Search {
         self.record_lemma(lemma)
     }
 
-    /// Jumps back, and holds, attaches and records the lemma of a conflict above level 0.
+    /// Learns the lemma of a conflict above level 0, raises the activities of the variables that it touched, and restarts
+    /// if that is due.
     fn learn(&mut self, lesson: Lesson) -> Result<(), NoMemory>
         requires ready { IsReady self.old }
         requires lesson { IsLesson self.old.state lesson }
@@ -66,15 +63,34 @@ impl Search {
         ensures state { OnOk result (IsSearchAt self.old.frame (learnt self.old.frame lesson self.old.state) self.new) }
         ensures joined { OnOk result (IsJoined self.new) }
     {
+        let touched = self.keep(lesson)?;
+        self.weigh(touched.as_slice());
+        self.pace()
+    }
+
+    /// Jumps back, and holds, attaches and records the lemma of a conflict above level 0. Gives the touched variables.
+    fn keep(&mut self, lesson: Lesson) -> Result<List<u32>, NoMemory>
+        requires ready { IsReady self.old }
+        requires lesson { IsLesson self.old.state lesson }
+        requires above { 0 < level_now self.old.state.trail }
+        ensures state { OnOk result (IsSearchAt self.old.frame (jumped_back self.old.frame lesson self.old.state) self.new) }
+        ensures touched { IfOk result (λ touched. touched ≡ lesson.touched) }
+        ensures joined { OnOk result (IsJoined self.new) }
+    {
         let lemma = Lemma {
             name: self.next_name(),
             lits: lesson.lits,
             hints: lesson.hints,
         };
-        jump_back(&mut self.trail, &mut self.rounds, lesson.back);
+        jump_back(
+            &mut self.trail,
+            &mut self.rounds,
+            &mut self.order,
+            lesson.back,
+        );
         hold_lemma(&mut self.pool, &mut self.rounds, &self.trail, &lemma)?;
         self.record_lemma(lemma)?;
-        Ok(())
+        Ok(lesson.touched)
     }
 
     /// The name of the next lemma of the period. Conflicts are counted by 32 bits, and lemmas are no more than these.
@@ -98,16 +114,4 @@ impl Search {
         self.period_conflicts += 1;
         Ok(())
     }
-}
-
-/// Cuts the trail to a level, at which no clause was left unit or falsified, and tells propagation.
-pub(crate) fn jump_back(trail: &mut Trail, rounds: &mut Rounds, level: u32)
-    requires { level ≤ level_now trail.old.entries }
-    ensures trail { trail.new ≡ jumped level trail.old }
-    ensures attached { (clauses : List NamedClause) → IsAttachedTo rounds.old clauses trail.old.entries →
-        AreQuietBelow trail.old.entries clauses → IsAttachedTo rounds.new clauses trail.new.entries }
-    ensures variables { rounds.new.variables ≡ rounds.old.variables }
-{
-    trail.jump(level);
-    rounds.jumped(trail);
 }

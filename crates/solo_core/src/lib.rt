@@ -12,9 +12,10 @@ pub use laws::{
     law_derived_from_more, law_derived_lemmas_are_true, law_derived_lemmas_check,
     law_first_state_is_sound, law_import_keeps_soundness, law_jump_to_level_one,
     law_last_value_is_kept, law_mail_counts_the_period, law_model_satisfies_formula,
-    law_model_stands_exactly_at_sat, law_period_may_end, law_root_reason_is_a_hint,
-    law_spent_core_does_nothing, law_square_is_given_up_at_the_limit, law_square_is_refuted,
-    law_stretch_ends_by_rule, law_stretch_is_sound, law_turn_keeps_soundness, law_turns_suffice,
+    law_model_stands_exactly_at_sat, law_period_may_end, law_posts_may_be_imported,
+    law_root_reason_is_a_hint, law_spent_core_does_nothing, law_square_is_given_up_at_the_limit,
+    law_square_is_refuted, law_stretch_ends_by_rule, law_stretch_is_sound,
+    law_touched_variable_is_picked_first, law_turn_keeps_soundness, law_turns_suffice,
     law_uses_may_change,
 };
 pub use lemma::Lemma;
@@ -24,9 +25,13 @@ pub use solo::Core;
 mod first;
 mod handing;
 mod holding;
+mod importing;
+mod jump;
 mod laws;
 mod learning;
 mod lemma;
+mod pace;
+mod posting;
 mod propagation;
 mod search;
 mod sheet;
@@ -35,3 +40,4 @@ mod solo;
 mod tests;
 mod turn;
 mod uses;
+mod weights;

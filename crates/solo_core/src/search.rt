@@ -1,5 +1,4 @@
-ghost use Rattle.std.specs.Prelude.{◌≡◌, ◌≢◌, ◌<◌, ◌≤◌, ◌+◌, IfOk, IfSome, OnOk, Option, Some, None, List, true};
-ghost use Rattle.lit_base.specs.Trail.{is_free, first_free, value_or_false};
+ghost use Rattle.std.specs.Prelude.{◌≡◌, ◌≢◌, ◌<◌, ◌≤◌, ◌+◌, IfOk, OnOk, Option, Some, None, List, unwrap_or};
 ghost use Rattle.lit_base.specs.Backjump.{last_value};
 ghost use Rattle.lit_base.specs.Held.{clauses_of};
 ghost use Rattle.lit_base.specs.Quiet.{AreQuietBelow};
@@ -13,18 +12,21 @@ ghost use Rattle.solo_core.specs.Searching.{IsJoined, IsReady, IsSearchAt, Follo
 ghost use Rattle.solo_core.specs.Soundness.{IsSound};
 ghost use Rattle.solo_core.specs.declared.turn.TurnEnd.TheVariants.{Refuted};
 
-use crate::learning::jump_back;
+use crate::jump::jump_back;
 use crate::lemma::Lemma;
 use crate::propagation::propagate;
 use crate::sheet::End;
 use crate::turn::TurnEnd;
 use clause_pool::Pool;
+use core_rows::Row;
 use first_uip::Analyser;
 use lit_base::{List, Lit, NoMemory};
 use round_prop::{Found, Rounds};
 use std::alloc::Global;
 use std::marker::Model;
+use tempo::Tempo;
 use trail_book::Trail;
+use var_order::Order;
 
 /// What a core searches with.
 #[derive(Drop)]
@@ -33,8 +35,12 @@ pub(crate) struct Search {
     pub(crate) variables: u32,
     /// The number of the core, from 0.
     pub(crate) core: u32,
+    /// The literals that a clause which the core posts has at most.
+    pub(crate) share: u32,
     /// The conflicts that the core may have in the whole run.
     pub(crate) limit: u32,
+    /// By what the core differs from the others.
+    pub(crate) row: Row,
     /// The period, from 1.
     pub(crate) period: u32,
     /// The conflicts in the whole run so far.
@@ -45,6 +51,12 @@ pub(crate) struct Search {
     pub(crate) pool: Pool,
     /// The literals that are true, and why.
     pub(crate) trail: Trail,
+    /// The variables by activity, with each that is free on the trail.
+    pub(crate) order: Order,
+    /// When the core restarts.
+    pub(crate) tempo: Tempo,
+    /// The reductions that were made.
+    pub(crate) reductions: u32,
     /// What propagation keeps of the held clauses.
     pub(crate) rounds: Rounds,
     /// What conflict analysis works with, made once for all conflicts.
@@ -61,7 +73,7 @@ impl Model for Search {
     ghost Value = { SearchState };
 
     ghost view = { λ s. record {
-      frame = record { variables = s.variables; core = s.core; limit = s.limit };
+      frame = record { variables = s.variables; core = s.core; share = s.share; limit = s.limit; row = s.row };
       state = record {
         period = s.period;
         clauses = s.pool;
@@ -70,9 +82,13 @@ impl Model for Search {
         conflicts = s.conflicts;
         period_conflicts = s.period_conflicts;
         lemmas = s.lemmas;
+        activities = s.order.activities;
+        tempo = s.tempo;
+        reductions = s.reductions;
       };
       rounds = s.rounds;
       analyser = s.analyser;
+      present = s.order.present;
     } };
 }
 
@@ -87,26 +103,17 @@ impl Search {
         propagate(&mut self.rounds, &self.pool, &mut self.trail)
     }
 
-    /// The literal to decide: the free variable of lowest number, if one is free, with its last value.
-    fn picked(&self) -> Option<Lit>
-        requires { IsJoined self.now }
-        ensures literal { result ≡ picked self.now.frame self.now.state }
-        ensures free { IfSome result (λ l. is_free self.now.state.trail l.variable ≡ true) }
-        ensures within { IfSome result (λ l. l.variable ≤ self.now.frame.variables) }
-    {
-        let var = first_free(&self.trail, self.variables)?;
-        Some(last_literal(&self.trail, var))
-    }
-
-    /// Decides the literal that is picked; where no variable is free the trail is a model.
+    /// Decides the variable that is picked, with its last value, or the row's phase where it never had one; where no
+    /// variable is free the trail is a model.
     fn choose(&mut self) -> TurnEnd
         requires { IsJoined self.old }
         ensures state { IsSearchAt self.old.frame (chosen self.old.state (picked self.old.frame self.old.state)).state self.new }
         ensures end { result ≡ (chosen self.old.state (picked self.old.frame self.old.state)).came_to }
         ensures joined { IsJoined self.new }
     {
-        match self.picked() {
-            Some(lit) => {
+        match self.order.pick(&self.trail) {
+            Some(var) => {
+                let lit = last_literal(&self.trail, var, self.row.phase);
                 self.trail.decide(lit);
                 TurnEnd::Decided
             }
@@ -206,36 +213,21 @@ impl Search {
     }
 
     /// Jumps back to level 0.
-    fn jump_to_root(&mut self)
+    pub(crate) fn jump_to_root(&mut self)
         requires joined { IsJoined self.old }
         requires quiet { AreQuietBelow self.old.state.trail (clauses_of self.old.state.clauses) }
         ensures state { IsSearchAt self.old.frame (jumped 0 self.old.state) self.new }
         ensures joined { IsJoined self.new }
     {
-        jump_back(&mut self.trail, &mut self.rounds, 0);
+        jump_back(&mut self.trail, &mut self.rounds, &mut self.order, 0);
     }
 }
 
-/// The first variable, from 1 on, that is free.
-fn first_free(trail: &Trail, variables: u32) -> Option<u32>
-    ensures first { result ≡ first_free variables 1 trail.now.entries }
-    ensures free { IfSome result (λ var. is_free trail.now.entries var ≡ true) }
-    ensures low { IfSome result (λ var. 1 ≤ var) }
-    ensures high { IfSome result (λ var. var ≤ variables) }
-{
-    for index in 0..variables {
-        if trail.is_free(index + 1) {
-            return Some(index + 1);
-        }
-    }
-    None
-}
-
-/// The literal of a variable with the value that it last had, and negated where it never had one.
-fn last_literal(trail: &Trail, var: u32) -> Lit
+/// The literal of a variable with the value that it last had, and with this one where it never had one.
+fn last_literal(trail: &Trail, var: u32, phase: bool) -> Lit
     requires low { 1 ≤ var }
     requires high { var ≤ 1000000 }
-    ensures { result ≡ record { variable = var; positive = value_or_false (last_value trail.now.entries trail.now.saved var) } }
+    ensures { result ≡ record { variable = var; positive = unwrap_or (last_value trail.now.entries trail.now.saved var) phase } }
 {
-    Lit::of(var, trail.last(var).unwrap_or(false))
+    Lit::of(var, trail.last(var).unwrap_or(phase))
 }

@@ -1,14 +1,15 @@
-ghost use Rattle.std.specs.Prelude.{◌≡◌, ◌≤◌, ◌<◌, true, false, Some, None, IsSome, IsErr, IfOk, OnOk, OnErr};
+ghost use Rattle.std.specs.Prelude.{◌≡◌, ◌≤◌, ◌<◌, ◌+◌, ◌^◌, true, false, Some, None, IsSome, IsErr, IfOk, OnOk, OnErr};
 ghost use Rattle.lit_base.specs.Held.{volume_of};
 ghost use Rattle.solo_core.specs.Stretch.{stretch};
-ghost use Rattle.solo_core.specs.Sheet.{sheet_at};
+ghost use Rattle.solo_core.specs.Sheet.{mail_after, sheet_at};
+ghost use Rattle.solo_core.specs.Period.{AreMails};
 ghost use Rattle.solo_core.specs.First.{AreInRange, first_core};
-ghost use Rattle.solo_core.specs.Calls.{after_stretch, after_sheet};
+ghost use Rattle.solo_core.specs.Calls.{after_stretch, after_sheet, after_import, HasNoAnswer};
 
 use crate::first::first_search;
 use crate::handing::{mail_of, model_of};
 use crate::search::Search;
-use crate::sheet::{End, Settings, Sheet};
+use crate::sheet::{End, Mail, Settings, Sheet};
 use lit_base::{Formula, NoMemory};
 use std::alloc::Global;
 use std::marker::Model;
@@ -111,6 +112,22 @@ impl Core {
         self.search.pool.volume()
     }
 
+    /// The mail of the period whose stretch was made, before its sheet is asked for.
+    ///
+    /// It posts the lemmas of the period with at least one literal and at most as many as the core's share limit, in the
+    /// order of their indexes.
+    pub fn post(&self) -> Result<Mail, NoMemory>
+        requires ended { self.now.is_broken ≡ false → IsSome self.now.ended }
+        requires once { self.now.is_broken ≡ false → self.now.is_handed ≡ false }
+        ensures mail { IfOk result (λ mail. Some mail ≡ mail_after self.now.frame self.now.state self.now.ended) }
+        ensures broken { self.now.is_broken ≡ true → IsErr result }
+    {
+        if self.is_broken {
+            return Err(NoMemory);
+        }
+        mail_of(&self.search, self.ended.unwrap())
+    }
+
     /// What the core leaves of the period whose stretch was made. The lemmas are moved out. After
     /// `NoMemory` the core is broken.
     pub fn sheet(&mut self) -> Result<Sheet, NoMemory>
@@ -127,7 +144,7 @@ impl Core {
         self.is_broken = true;
         let end = self.ended.unwrap();
         let model = model_of(&self.search, end)?;
-        let mail = mail_of(&self.search, end);
+        let mail = mail_of(&self.search, end)?;
         let lemmas = self.search.take_lemmas();
         self.is_handed = true;
         self.is_broken = false;
@@ -136,5 +153,28 @@ impl Core {
             lemmas,
             model,
         })
+    }
+
+    /// Goes to the next period: the clauses that these mails post are held, in the order of their names and without uses.
+    ///
+    /// The mails are of other cores, by rising cores, and post lemmas of this period; the core has no answer, and its period
+    /// is below 2^32 - 1. After `NoMemory` the core is broken.
+    pub fn import(&mut self, mails: &[Mail]) -> Result<(), NoMemory>
+        requires goes_on { self.old.is_broken ≡ false → HasNoAnswer self.old.ended }
+        requires mails { self.old.is_broken ≡ false → AreMails self.old.frame.variables self.old.state.period self.old.frame.core 0 mails.now }
+        requires period { self.old.is_broken ≡ false → self.old.state.period + 1 < 2 ^ 32 }
+        ensures state { OnOk result (self.new ≡ after_import mails.now self.old) }
+        ensures breaks { OnErr result (self.new.is_broken ≡ true) }
+        ensures broken { self.old.is_broken ≡ true → IsErr result }
+    {
+        if self.is_broken {
+            return Err(NoMemory);
+        }
+        self.is_broken = true;
+        self.search.import(mails)?;
+        self.ended = None;
+        self.is_handed = false;
+        self.is_broken = false;
+        Ok(())
     }
 }

@@ -1,78 +1,82 @@
-ghost use Rattle.std.specs.Prelude.{◌≡◌, ◌≤◌};
+ghost use Rattle.std.specs.Prelude.{◌≡◌, ◌≤◌, ◌<◌};
 ghost use Rattle.solo_core.specs.First.{AreInRange};
 
-use crate::{
-    Core, End, Settings, Sheet, law_any_clause_may_be_added, law_any_clause_may_be_dropped,
-    law_any_free_variable_may_be_decided, law_any_jump_may_be_made, law_conflict_asserts,
-    law_derived_from_more, law_derived_lemmas_are_true, law_derived_lemmas_check,
-    law_first_state_is_sound, law_import_keeps_soundness, law_jump_to_level_one,
-    law_last_value_is_kept, law_mail_counts_the_period, law_model_satisfies_formula,
-    law_model_stands_exactly_at_sat, law_period_may_end, law_root_reason_is_a_hint,
-    law_spent_core_does_nothing, law_square_is_given_up_at_the_limit, law_square_is_refuted,
-    law_stretch_ends_by_rule, law_stretch_is_sound, law_turn_keeps_soundness, law_turns_suffice,
-    law_uses_may_change,
-};
+use super::*;
 use lit_base::{Clause, Formula, Lit, NoMemory};
 use std::alloc::Global;
 use std::process::Abort;
 use std::test::Fail;
 
-/// The formula of these clauses, four of them at the most, over three variables.
+/// Adds the clause of these numbers, which are within the variables.
+fn push(
+    rt: &impl Abort,
+    alloc: Global,
+    formula: &mut Formula,
+    numbers: &[i32],
+) -> Result<(), NoMemory> {
+    let mut lits = Vec::new(alloc);
+    for number in numbers {
+        lits.push(Lit::new(*number).expect(rt, "a literal"))?;
+    }
+    let clause = Clause::of(alloc, &lits)?;
+    assert!(rt; clause.is_within(formula.variables()) && formula.len() < 100);
+    formula.push(clause)
+}
+
+/// The formula of these clauses over three variables.
 fn formula(rt: &impl Abort, alloc: Global, clauses: &[&[i32]]) -> Result<Formula, NoMemory> {
     let mut formula = Formula::new(alloc, 3);
-    for numbers in clauses.iter().take(4) {
-        let mut lits = Vec::new(alloc);
-        for number in *numbers {
-            lits.push(Lit::new(*number).expect(rt, "a literal"))?;
-        }
-        let clause = Clause::of(alloc, &lits)?;
-        if clause.is_within(formula.variables()) && formula.len() < 4 {
-            formula.push(clause)?;
-        }
+    for numbers in clauses {
+        push(rt, alloc, &mut formula, numbers)?;
     }
     Ok(formula)
 }
 
-/// The settings of one core, whose limit is from 1 to 10.
+/// The settings of sixteen cores, whose limit is from 1 to 1000.
 fn settings(limit: u32) -> Settings
     requires some { 1 ≤ limit }
-    requires few { limit ≤ 10 }
+    requires few { limit ≤ 1000 }
     ensures range { AreInRange result }
-    ensures cores { result.cores ≡ 1 }
+    ensures cores { result.cores ≡ 16 }
 {
     Settings {
-        cores: 1,
+        cores: 16,
         period: 300,
         share: 8,
         limit,
-        seed: 0,
+        seed: 7,
     }
 }
 
-/// The sheet of core 0 after a stretch over these clauses, with a limit and a quota from 1 to 10.
+/// The sheet of a core after a stretch over a formula, with a limit and a quota from 1 to 1000.
 fn sheet_of(
     rt: &impl Abort,
     alloc: Global,
-    clauses: &[&[i32]],
+    formula: &Formula,
+    core: u32,
     limit: u32,
     quota: u32,
 ) -> Result<Sheet, NoMemory>
+    requires core { core < 16 }
     requires some { 1 ≤ limit }
-    requires few { limit ≤ 10 }
+    requires few { limit ≤ 1000 }
     requires quota { 1 ≤ quota }
 {
-    let formula = formula(rt, alloc, clauses)?;
-    let mut core = Core::make(alloc, &formula, &settings(limit), 0)?;
-    let end = core.stretch(quota)?;
-    let (period, conflicts, volume) = (core.period(), core.conflicts(), core.volume());
-    let sheet = core.sheet()?;
+    let mut searching = Core::make(alloc, formula, &settings(limit), core)?;
+    let end = searching.stretch(quota)?;
+    let (period, conflicts, volume) = (
+        searching.period(),
+        searching.conflicts(),
+        searching.volume(),
+    );
+    let sheet = searching.sheet()?;
     assert_eq!(rt; sheet.mail.end, end);
     assert_eq!(rt;
         (sheet.mail.core, sheet.mail.period, sheet.mail.conflicts),
-        (0, period, conflicts)
+        (core, period, conflicts)
     );
     assert_eq!(rt; sheet.mail.volume, volume);
-    assert_eq!(rt; core.conflicts(), conflicts);
+    assert_eq!(rt; searching.conflicts(), conflicts);
     Ok(sheet)
 }
 
@@ -82,14 +86,21 @@ fn a_core_solves_small_formulas(rt: HostRuntime) -> Result<(), Fail> {
     let keeper = [[1, 2].as_slice(), &[1, -2], &[3]];
     let stepped = [[1, 2, 3].as_slice(), &[1, 2, -3]];
     let forked = [[1].as_slice(), &[-1, 2, 3], &[-1, 2, -3]];
-    for (clauses, end, lemmas, volume, values) in [
-        (square.as_slice(), End::Unsat, 2, 1, [].as_slice()),
-        (keeper.as_slice(), End::Sat, 1, 1, &[true, true, true]),
-        (stepped.as_slice(), End::Sat, 1, 1, &[false, true, true]),
-        (forked.as_slice(), End::Sat, 1, 1, &[true, true, true]),
-        ([].as_slice(), End::Sat, 0, 0, &[false, false, false]),
+    let aside = [[2, 3].as_slice(), &[2, -3], &[1, -2, -3]];
+    for (core, clauses, end, lemmas, volume, values) in [
+        (0, square.as_slice(), End::Unsat, 2, 1, [].as_slice()),
+        (0, keeper.as_slice(), End::Sat, 1, 1, &[true, true, true]),
+        (0, stepped.as_slice(), End::Sat, 1, 1, &[false, true, true]),
+        (0, forked.as_slice(), End::Sat, 1, 1, &[true, true, true]),
+        // variables 2 and 3 were touched, and 3 is picked before 1
+        (0, aside.as_slice(), End::Sat, 1, 1, &[true, true, true]),
+        // a variable that never had a value has the phase of the row
+        (0, [].as_slice(), End::Sat, 0, 0, &[false, false, false]),
+        (1, [].as_slice(), End::Sat, 0, 0, &[true, true, true]),
     ] {
-        let sheet = sheet_of(&rt, rt.alloc(), clauses, 10, 10)?;
+        assert!(rt; core < 16);
+        let formula = formula(&rt, rt.alloc(), clauses)?;
+        let sheet = sheet_of(&rt, rt.alloc(), &formula, core, 10, 10)?;
         assert_eq!(rt; sheet.mail.end, end);
         assert_eq!(rt; sheet.lemmas.len(), lemmas);
         assert_eq!(rt; sheet.mail.conflicts as usize, lemmas);
@@ -105,9 +116,10 @@ fn a_core_solves_small_formulas(rt: HostRuntime) -> Result<(), Fail> {
 #[test]
 fn a_stretch_ends_at_its_quota_or_at_the_limit(rt: HostRuntime) -> Result<(), Fail> {
     let square = [[1, 2].as_slice(), &[1, -2], &[-1, 2], &[-1, -2]];
-    let quota = sheet_of(&rt, rt.alloc(), &square, 10, 1)?;
-    let spent = sheet_of(&rt, rt.alloc(), &square, 1, 10)?;
-    let both = sheet_of(&rt, rt.alloc(), &square, 1, 1)?;
+    let formula = formula(&rt, rt.alloc(), &square)?;
+    let quota = sheet_of(&rt, rt.alloc(), &formula, 0, 10, 1)?;
+    let spent = sheet_of(&rt, rt.alloc(), &formula, 0, 1, 10)?;
+    let both = sheet_of(&rt, rt.alloc(), &formula, 0, 1, 1)?;
     for (sheet, end) in [
         (&quota, End::Quota),
         (&spent, End::Spent),
@@ -136,6 +148,7 @@ fn laws_can_be_called(_rt: HostRuntime) {
     law_any_clause_may_be_added();
     law_uses_may_change();
     law_period_may_end();
+    law_posts_may_be_imported();
     law_import_keeps_soundness();
     law_model_stands_exactly_at_sat();
     law_mail_counts_the_period();
@@ -148,4 +161,5 @@ fn laws_can_be_called(_rt: HostRuntime) {
     law_jump_to_level_one();
     law_root_reason_is_a_hint();
     law_last_value_is_kept();
+    law_touched_variable_is_picked_first();
 }

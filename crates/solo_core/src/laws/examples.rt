@@ -5,7 +5,7 @@ ghost use Rattle.lit_base.specs.Rounds.{original};
 ghost use Rattle.lit_base.specs.Trail.{model_of};
 ghost use Rattle.solo_core.specs.State.{lemma_name};
 ghost use Rattle.solo_core.specs.Sheet.{mail_of, sheet_of};
-ghost use Rattle.solo_core.specs.Laws.{alone, first_stretch, learnt_lemma, keeper, stepped};
+ghost use Rattle.solo_core.specs.Laws.{alone, first_stretch, learnt_lemma, keeper, stepped, aside};
 ghost use Rattle.solo_core.specs.declared.sheet.End.TheVariants.{Sat, Unsat, Spent};
 
 /// The four clauses of two variables: a lemma of one literal, then the empty one, and no more.
@@ -24,7 +24,14 @@ pub fn law_square_is_given_up_at_the_limit()
         learnt_lemma 0 (plain 1 ∷ []) (original 0 ∷ original 1 ∷ []) ∷ [] }
     ensures trail { (first_stretch square 1).state.trail ≡ [] }
     ensures mail { mail_of (alone square 1) (first_stretch square 1) ≡
-        record { core = 0; period = 1; end = Spent; conflicts = 1; volume = 1; posted = [] } }
+        record {
+          core = 0;
+          period = 1;
+          end = Spent;
+          conflicts = 1;
+          volume = 1;
+          posted = record { name = lemma_name 1 0 0; lits = plain 1 ∷ [] } ∷ [];
+        } }
 {}
 
 /// A lemma of levels 2 and 1: the core jumps to level 1, where the lemma is unit.
@@ -52,4 +59,13 @@ pub fn law_last_value_is_kept()
         learnt_lemma 0 (plain 1 ∷ []) (original 0 ∷ original 1 ∷ []) ∷ [] }
     ensures model { (sheet_of (alone keeper 10) (first_stretch keeper 10)).model ≡
         Some (true ∷ true ∷ []) }
+{}
+
+/// A variable that a conflict touched is picked before one of a lower number.
+pub fn law_touched_variable_is_picked_first()
+    ensures ended { (first_stretch aside 10).ended ≡ Sat }
+    ensures lemmas { (first_stretch aside 10).state.lemmas ≡
+        learnt_lemma 0 (plain 2 ∷ []) (original 0 ∷ original 1 ∷ []) ∷ [] }
+    ensures model { (sheet_of (alone aside 10) (first_stretch aside 10)).model ≡
+        Some (true ∷ true ∷ true ∷ []) }
 {}

@@ -9,10 +9,11 @@ pub use ends::{law_spent_core_does_nothing, law_stretch_ends_by_rule, law_turns_
 pub use examples::{
     law_jump_to_level_one, law_last_value_is_kept, law_root_reason_is_a_hint,
     law_square_is_given_up_at_the_limit, law_square_is_refuted,
+    law_touched_variable_is_picked_first,
 };
 pub use periods::{
     law_import_keeps_soundness, law_mail_counts_the_period, law_model_stands_exactly_at_sat,
-    law_period_may_end,
+    law_period_may_end, law_posts_may_be_imported,
 };
 pub use soundness::{
     law_conflict_asserts, law_derived_lemmas_are_true, law_derived_lemmas_check,

@@ -1,5 +1,5 @@
 //! What a core leaves of a period, and how it goes on in the next.
-ghost use Rattle.std.specs.Prelude.{◌≡◌, ◌+◌, ℕ, ◌↔◌, Bool, List, ◌++◌, length, Some, IsSome};
+ghost use Rattle.std.specs.Prelude.{◌≡◌, ◌+◌, ℕ, ◌↔◌, Bool, List, ◌++◌, length, ◌≢◌, Some, IsSome};
 ghost use Rattle.lit_base.specs.Cnf.{Cnf};
 ghost use Rattle.lit_base.specs.Trail.{level_now};
 ghost use Rattle.lit_base.specs.Truth.{Satisfies};
@@ -8,9 +8,9 @@ ghost use Rattle.solo_core.specs.State.{CoreFrame, CoreState, lemma_clauses};
 ghost use Rattle.solo_core.specs.First.{first_state};
 ghost use Rattle.solo_core.specs.Stretch.{Stretched, stretch};
 ghost use Rattle.solo_core.specs.Sheet.{mail_of, sheet_of};
-ghost use Rattle.solo_core.specs.Period.{BeginsPeriod, in_next_period, NoneOfOthers, AreMails, clauses_posted, core_after_import};
+ghost use Rattle.solo_core.specs.Period.{BeginsPeriod, ArePosts, in_next_period, NoneOfOthers, AreMails, clauses_posted, core_after_import};
 ghost use Rattle.solo_core.specs.Soundness.{IsSound, HoldsFormula};
-ghost use Rattle.solo_core.specs.declared.sheet.End.TheVariants.{Sat};
+ghost use Rattle.solo_core.specs.declared.sheet.End.TheVariants.{Sat, Unsat};
 ghost use Rattle.solo_core.specs.declared.sheet.Mail.{Mail};
 ghost use Rattle.solo_core.specs.declared.sheet.Settings.{Settings};
 
@@ -40,6 +40,14 @@ pub fn law_period_may_end()
         IsSound base frame state → IsSound (base ++ lemma_clauses state.lemmas) frame (in_next_period state) }
     ensures others { (base : List NamedClause) (frame : CoreFrame) (state : CoreState) →
         IsSound base frame state → NoneOfOthers (base ++ lemma_clauses state.lemmas) state.period frame.core }
+{}
+
+/// What the mail of a stretch posts is what the other cores import: lemmas of this core and period, by rising indexes, whose
+/// literals are distinct and within the variables.
+pub fn law_posts_may_be_imported()
+    ensures { (base : List NamedClause) (frame : CoreFrame) (quota : ℕ) (state : CoreState) →
+        IsSound base frame state → (stretch frame quota state).ended ≢ Unsat →
+        ArePosts frame.variables state.period frame.core 0 (mail_of frame (stretch frame quota state)).posted }
 {}
 
 /// A core at level 0 whose period is over may import what the other cores post in it.

@@ -13,5 +13,5 @@ returns-clause-joined c =
     let joined : IsJoined (the_view c.self.inside) = subst IsJoined (sym c.self.view_is) c.requires.joined in
     let quiet : AreQuietBelow c.self.inside.trail.entries (clauses_of c.self.inside.pool) =
     subst (λ (s : SearchState). AreQuietBelow s.state.trail (clauses_of s.state.clauses)) (sym c.self.view_is) c.requires.quiet in
-    jumped_joined (the_view c.self.inside) c.jump_back.new.rounds c.jump_back.new.trail 0 joined c.jump_back.ensures.trail c.jump_back.ensures.variables
-    (c.jump_back.ensures.attached (clauses_of c.self.inside.pool) joined.attached quiet)
+    jumped_joined (the_view c.self.inside) c.jump_back.new.rounds c.jump_back.new.trail c.jump_back.new.order 0 joined c.jump_back.ensures.trail c.jump_back.ensures.variables
+    (c.jump_back.ensures.attached (clauses_of c.self.inside.pool) joined.attached quiet) c.jump_back.ensures.activities c.jump_back.ensures.present

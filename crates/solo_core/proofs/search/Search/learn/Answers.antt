@@ -1,60 +1,55 @@
-use Rattle.std.proofs.Common.{◌≡◌, ◌≤◌, ◌^◌, subst, sym, ap, ◌∙◌}
-use Rattle.std.specs.Prelude.{None, IsSome}
-use Rattle.std.specs.List.{AllByRecursion}
-use Rattle.lit_base.specs.Trail.{level_now}
-use Rattle.lit_base.specs.Held.{clauses_of}
-use Rattle.solo_core.specs.declared.lemma.Lemma.{Lemma}
-use Rattle.solo_core.specs.Turn.{look_of}
+use Rattle.std.proofs.Common.{◌≡◌, ◌==◌, ◌+◌, List, ℕ, length, refl, sym, ◌∙◌, subst}
+use Rattle.std.specs.List.{IsDistinct}
 use Rattle.solo_core.specs.State.{SearchState}
-use Rattle.solo_core.specs.Searching.{AreFewUses, IsJoined, IsReady}
-use Rattle.solo_core.specs.contracts.search.Search.{the_view}
-use Rattle.solo_core.proofs.Learnt.{back_low, hints_held, hints_apart, lits_apart, name_free, uses_fit, after_lesson, learnt_joined}
+use Rattle.solo_core.specs.Turn.{jumped_back}
+use Rattle.solo_core.specs.Soundness.{IsSound}
+use Rattle.solo_core.specs.Searching.{AreVariables, IsJoined}
+use Rattle.solo_core.proofs.Joined.{at_search}
+use Rattle.solo_core.proofs.Learnt.{MayLearn, touched_apart, kept_sound, kept_weights, kept_touched, weighed_joined, learnt_at-on_ok}
+use Rattle.solo_core.proofs.SoundPaced.{weighed_sound}
 use Rattle.solo_core.proofs.search.Search.learn.Goals as goal
 
--- there is the level to jump back to
-pub jump_back-requires : goal.jump_back-requires
-jump_back-requires c =
-    subst (λ (s : SearchState). c.args.lesson.back ≤ level_now s.state.trail) (sym c.self.view_is)
-    (back_low c.args.self.now c.args.lesson (record { ready = c.requires.ready; taught = c.requires.lesson; above = c.requires.above }))
+-- what was touched is distinct variables
+pub weigh-requires-clause-within : goal.weigh-requires-clause-within
+weigh-requires-clause-within c =
+    let s = c.args.self.now in
+    let may : MayLearn s c.args.lesson = record { ready = c.requires.ready; taught = c.requires.lesson; above = c.requires.above } in
+    subst (λ (vs : List ℕ). AreVariables (length c.keep.new.self.state.activities) vs) (sym (c.as_slice.ensures ∙ c.in_ok-touched.ensures.touched))
+    (kept_touched s c.keep.new.self c.args.lesson may c.in_ok-touched.ensures.state)
 
--- the lemma's name is free
-pub hold_lemma-requires-clause-free : goal.hold_lemma-requires-clause-free
-hold_lemma-requires-clause-free c =
-    subst (λ (s : SearchState). look_of s.state c.next_name.result ≡ None) (sym c.self.view_is)
-    (ap (λ name. look_of c.args.self.now.state name) c.next_name.ensures.name ∙ name_free c.args.self.now c.requires.ready)
+pub weigh-requires-clause-distinct : goal.weigh-requires-clause-distinct
+weigh-requires-clause-distinct c =
+    let s = c.args.self.now in
+    let may : MayLearn s c.args.lesson = record { ready = c.requires.ready; taught = c.requires.lesson; above = c.requires.above } in
+    subst (λ (vs : List ℕ). IsDistinct (λ v w. v == w) vs) (sym (c.as_slice.ensures ∙ c.in_ok-touched.ensures.touched)) (touched_apart s c.args.lesson may)
 
--- the literals are distinct
-pub hold_lemma-requires-clause-distinct : goal.hold_lemma-requires-clause-distinct
-hold_lemma-requires-clause-distinct c =
-    lits_apart c.args.self.now c.args.lesson (record { ready = c.requires.ready; taught = c.requires.lesson; above = c.requires.above })
+-- activities don't matter to what is sound
+pub pace-requires-clause-sound : goal.pace-requires-clause-sound
+pace-requires-clause-sound c =
+    let s = c.args.self.now in
+    let kept = c.keep.new.self in
+    let may : MayLearn s c.args.lesson = record { ready = c.requires.ready; taught = c.requires.lesson; above = c.requires.above } in (
+      c.requires.ready.base,
+      subst (λ (w : SearchState). IsSound c.requires.ready.base w.frame w.state) (sym c.weigh.ensures)
+          (weighed_sound c.requires.ready.base kept.frame c.as_slice.result.now kept.state (kept_sound s kept c.args.lesson may c.in_ok-touched.ensures.state)),
+    )
 
--- the hints are held, and distinct
-pub hold_lemma-requires-clause-held : goal.hold_lemma-requires-clause-held
-hold_lemma-requires-clause-held c =
-    subst (λ (s : SearchState). AllByRecursion (λ hint. IsSome (look_of s.state hint)) c.args.lesson.hints) (sym c.self.view_is)
-    (hints_held c.args.self.now c.args.lesson (record { ready = c.requires.ready; taught = c.requires.lesson; above = c.requires.above }))
+-- none has passed its bound
+pub pace-requires-clause-joined : goal.pace-requires-clause-joined
+pace-requires-clause-joined c =
+    let s = c.args.self.now in
+    let kept = c.keep.new.self in
+    let may : MayLearn s c.args.lesson = record { ready = c.requires.ready; taught = c.requires.lesson; above = c.requires.above } in
+    let touched_is = c.as_slice.ensures ∙ c.in_ok-touched.ensures.touched in
+    subst IsJoined (sym c.weigh.ensures)
+    (weighed_joined kept s.state.conflicts c.as_slice.result.now c.in_ok-touched.ensures.joined
+    (at_search (λ f k. k.conflicts ≡ s.state.conflicts + 1) s.frame (jumped_back s.frame c.args.lesson s.state) kept c.in_ok-touched.ensures.state refl)
+    (kept_weights s kept c.args.lesson c.requires.ready c.in_ok-touched.ensures.state)
+    (subst (λ (vs : List ℕ). IsDistinct (λ v w. v == w) vs) (sym touched_is) (touched_apart s c.args.lesson may))
+    (subst (λ (vs : List ℕ). AreVariables (length kept.state.activities) vs) (sym touched_is) (kept_touched s kept c.args.lesson may c.in_ok-touched.ensures.state)))
 
-pub hold_lemma-requires-clause-hints_distinct : goal.hold_lemma-requires-clause-hints_distinct
-hold_lemma-requires-clause-hints_distinct c =
-    hints_apart c.args.self.now c.args.lesson (record { ready = c.requires.ready; taught = c.requires.lesson; above = c.requires.above })
-
--- and their uses are few
-pub hold_lemma-requires-clause-few : goal.hold_lemma-requires-clause-few
-hold_lemma-requires-clause-few c =
-    subst (λ (s : SearchState). AreFewUses (2 ^ 32) s.state.clauses) (sym c.self.view_is) (uses_fit c.args.self.now c.requires.ready c.next_name.ensures.few)
-
--- propagation goes over the held clauses after the jump
-pub hold_lemma-requires-clause-attached : goal.hold_lemma-requires-clause-attached
-hold_lemma-requires-clause-attached c =
-    let ready : IsReady (the_view c.self.inside) = subst IsReady (sym c.self.view_is) c.requires.ready in
-    c.jump_back.ensures.attached (clauses_of c.self.inside.pool) ready.joined.attached ready.sound.holds.quiet
-
--- the parts fit one another
-pub returns-clause-joined : goal.returns-clause-joined
-returns-clause-joined c =
-    let ready : IsReady (the_view c.self.inside) = subst IsReady (sym c.self.view_is) c.requires.ready in
-    let lemma : Lemma = record { name = c.next_name.result; lits = c.args.lesson.lits; hints = c.args.lesson.hints } in
-    let is : c.record_lemma.new.self ≡ after_lesson (the_view c.self.inside) c.hold_lemma.new.rounds c.hold_lemma.new.pool c.jump_back.new.trail lemma = c.in_ok-record_lemma.ensures in
-    subst IsJoined (sym is)
-    (learnt_joined (the_view c.self.inside) c.hold_lemma.new.rounds c.hold_lemma.new.pool c.jump_back.new.trail lemma c.args.lesson.back ready c.jump_back.ensures.trail
-    c.in_ok-hold_lemma.ensures.pool (c.in_ok-hold_lemma.ensures.variables ∙ c.jump_back.ensures.variables) c.in_ok-hold_lemma.ensures.attached)
+-- the lesson is learnt
+pub returns-clause-state : goal.returns-clause-state
+returns-clause-state c =
+    learnt_at-on_ok c.pace.result c.args.self.now c.keep.new.self c.weigh.new.self c.pace.new.self c.args.lesson c.as_slice.result.now c.in_ok-touched.ensures.state
+    (c.as_slice.ensures ∙ c.in_ok-touched.ensures.touched) c.weigh.ensures c.pace.ensures.state
