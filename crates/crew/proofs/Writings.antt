@@ -1,35 +1,56 @@
--- What a run of one core writes.
-use Rattle.std.proofs.Common.{◌≡◌, List, [], ◌∷◌, ℕ, length, refl, ap, sym, ◌∙◌, subst}
-use Rattle.lit_base.specs.Cnf.{Cnf}
-use Rattle.log_merge.specs.Numbering.{Numbering, first_numbering, with_period}
-use Rattle.log_merge.specs.Part.{part_text, AllHaveNumbers}
-use Rattle.solo_core.specs.declared.lemma.Lemma.{Lemma}
-use Rattle.solo_core.specs.declared.sheet.Settings.{Settings}
-use Rattle.crew.specs.Run.{AreOfOneCore}
-use Rattle.crew.specs.Log.{log_text}
-use Rattle.crew.proofs.OneCore.{sole_lemmas}
-use Rattle.crew.proofs.OneLog.{sole_numbering, of_run}
+-- The log is written part by part: what was written before, and then a part, were written as one.
+use Rattle.std.proofs.Common.{ℕ, Bool, true, false, List, ◌++◌, append_assoc, ap, sym, ◌∙◌}
+use Rattle.std.specs.Prelude.{Result, Ok, Err}
+use Rattle.desk_io.specs.declared.Port.TheVariants.{Log}
+use Rattle.desk_io.specs.declared.PortFault.{PortFault}
+use Rattle.desk_io.specs.declared.PortFault.TheVariants.{Failed, NoMemory}
+use Rattle.desk_io.specs.Told.{OutputsTold}
+use Rattle.desk_io.specs.Outputs.{WritesWhole}
+use Rattle.desk_io.proofs.Written.{WritesWhole-then, WritesWhole-front, OnFailed-later}
+use Rattle.log_merge.specs.Writing.{WritesPart}
+use Rattle.log_merge.specs.declared.stop.Stop.{Stop}
+use Rattle.log_merge.specs.declared.stop.Stop.TheVariants.{NoMemory as WantOfMemory, WriteFault}
+use Rattle.crew.specs.Turns.{WritesLog}
+use Rattle.crew.proofs.Texts.{IsFront}
 
--- the text of the one core's lemmas is that of the log
-pub run_text : (cnf : Cnf) (settings : Settings) → AreOfOneCore settings → part_text (sole_numbering cnf settings) (sole_lemmas cnf settings) ≡ log_text cnf settings
-run_text cnf settings are =
-    of_run (λ n lemmas. part_text (sole_numbering cnf settings) (sole_lemmas cnf settings) ≡ part_text n lemmas) cnf settings are refl
+-- the answer of a call that went well
+abbrev pub fine : Result (Unit {0}) Stop
+fine = Ok tt
 
--- the numbering that is made of the one period's count is that of the one core's log
-pub made_numbering : (cnf : Cnf) (settings : Settings) (fresh made : Numbering) (originals : ℕ) (lemmas : List Lemma) → originals ≡ length cnf.clauses →
-    fresh ≡ first_numbering originals settings.cores → lemmas ≡ sole_lemmas cnf settings → made ≡ with_period (length lemmas ∷ []) fresh → made ≡ sole_numbering cnf settings
-made_numbering cnf settings fresh made originals lemmas counted first sole ended =
-    ended ∙ ap (λ (n : Numbering). with_period (length lemmas ∷ []) n) first
-    ∙ ap (λ k. with_period (length lemmas ∷ []) (first_numbering k settings.cores)) counted
-    ∙ ap (λ ls. with_period (length ls ∷ []) (first_numbering (length cnf.clauses) settings.cores)) sole
+-- a text that was written whole, and then a front of another
+whole_then : {first second : List ℕ} {start mid after : OutputsTold} (result : Result (Unit {0}) PortFault) → WritesWhole Log first start mid (Ok tt) → WritesWhole Log second mid after result →
+    WritesWhole Log (first ++ second) start after result
+whole_then (Ok done) front back = WritesWhole-then front back
+whole_then {first} {second} {start} {mid} {after} (Err fault) front back =
+    WritesWhole-front back.written.rest (append_assoc first back.written.done back.written.rest ∙ ap (λ xs. first ++ xs) back.written.parts)
+    (WritesWhole-then front (record { creates = back.creates; names = back.names; written = back.written.bytes; later = back.later; failed = tt; others = back.others }))
+    (OnFailed-later (Err fault) (start.at Log).faults (mid.at Log).faults (after.at Log).faults front.later back.failed)
 
--- under it the names of the lemmas have numbers, and their text is that of the log
-pub made_have : (cnf : Cnf) (settings : Settings) (made : Numbering) (lemmas : List Lemma) → made ≡ sole_numbering cnf settings → lemmas ≡ sole_lemmas cnf settings →
-    AllHaveNumbers (sole_numbering cnf settings) (sole_lemmas cnf settings) → AllHaveNumbers made lemmas
-made_have cnf settings made lemmas same sole have =
-    subst (λ (n : Numbering). AllHaveNumbers n lemmas) (sym same) (subst (λ ls. AllHaveNumbers (sole_numbering cnf settings) ls) (sym sole) have)
+pub part_then : {first second : List ℕ} {start mid after : OutputsTold} (result : Result (Unit {0}) Stop) → WritesPart first start mid fine → WritesPart second mid after result →
+    WritesPart (first ++ second) start after result
+part_then result front back = whole_then _ front back
 
-pub made_text : (cnf : Cnf) (settings : Settings) (made : Numbering) (lemmas : List Lemma) → AreOfOneCore settings → made ≡ sole_numbering cnf settings → lemmas ≡ sole_lemmas cnf settings →
-    part_text made lemmas ≡ log_text cnf settings
-made_text cnf settings made lemmas are same sole =
-    ap (λ (n : Numbering). part_text n lemmas) same ∙ ap (part_text (sole_numbering cnf settings)) sole ∙ run_text cnf settings are
+pub log_then : (log : Bool) (first second : List ℕ) (start mid after : OutputsTold) (result : Result (Unit {0}) Stop) → WritesLog log first start mid fine → WritesLog log second mid after result →
+    WritesLog log (first ++ second) start after result
+log_then true first second start mid after result front back = part_then result front back
+log_then false first second start mid after result front back = (back.0 ∙ front.0, back.1)
+
+-- where the writing stopped, it stopped in any longer text too
+longer : (front text : List ℕ) (start after : OutputsTold) (fault : PortFault) → IsFront front text → WritesWhole Log front start after (Err fault) → WritesWhole Log text start after (Err fault)
+longer front text start after fault is stopped =
+    WritesWhole-front (stopped.written.rest ++ is.rest)
+    (sym (append_assoc stopped.written.done stopped.written.rest is.rest) ∙ ap (λ xs. xs ++ is.rest) stopped.written.parts ∙ is.parts)
+    (record { creates = stopped.creates; names = stopped.names; written = stopped.written.bytes; later = stopped.later; failed = tt; others = stopped.others }) stopped.failed
+
+pub part_longer : (front text : List ℕ) (start after : OutputsTold) (stop : Stop) → IsFront front text → WritesPart front start after (Err stop) → WritesPart text start after (Err stop)
+part_longer front text start after WantOfMemory is stopped = longer front text start after NoMemory is stopped
+part_longer front text start after WriteFault is stopped = longer front text start after Failed is stopped
+
+pub log_longer : (log : Bool) (front text : List ℕ) (start after : OutputsTold) (stop : Stop) → IsFront front text → WritesLog log front start after (Err stop) → WritesLog log text start after (Err stop)
+log_longer true front text start after stop is stopped = part_longer front text start after stop is stopped
+log_longer false front text start after stop is stopped = stopped
+
+-- what was written is a front where memory runs out after it
+pub log_refused : (log : Bool) (front text : List ℕ) (start after : OutputsTold) → IsFront front text → WritesLog log front start after fine → WritesLog log text start after (Err WantOfMemory)
+log_refused true front text start after is written = WritesWhole-front is.rest is.parts written tt
+log_refused false front text start after is written = (written.0, λ same. cc)

@@ -1,6 +1,6 @@
 -- An era of a run: each core makes the stretch of its period, and the mails tell how the stretches ended. Where they end
 -- the run, it is over; else each core imports what the others posted, and is told how many conflicts it has next.
-use Rattle.std.specs.Prelude.{ℕ, max, ◌==◌, Bool, true, false, not, ◌||◌, List, [], ◌∷◌, map, filter, find, Option, is_some}
+use Rattle.std.specs.Prelude.{ℕ, max, ◌==◌, Bool, true, false, not, ◌||◌, List, [], ◌∷◌, map, filter, find, Option, option_map, is_some}
 use Rattle.std.specs.List.{list_all}
 use Rattle.lit_base.specs.Held.{volume_of}
 use Rattle.period_rule.specs.Period.{next_period}
@@ -41,6 +41,10 @@ mails_of members = map mail_at members
 abbrev pub sheets_of : List Member → List Sheet
 sheets_of members = map sheet_left members
 
+-- the mails that sheets have
+abbrev pub mails_in : List Sheet → List Mail
+mails_in sheets = map (λ sheet. sheet.mail) sheets
+
 -- == how an era ends: all of it can be read from the mails ==
 
 -- whether a stretch ended with an answer to the formula
@@ -60,6 +64,10 @@ is_spent Quota = false
 -- the mail of the winner: of the first core that has an answer
 abbrev pub winner_of : List Mail → Option Mail
 winner_of mails = find (λ mail. is_answer mail.end) mails
+
+-- the winner's number
+abbrev pub winning_core : List Mail → Option ℕ
+winning_core mails = option_map (λ mail. mail.core) (winner_of mails)
 
 -- the run is over where a core has an answer, and where all have spent their limit
 abbrev pub is_over : List Mail → Bool

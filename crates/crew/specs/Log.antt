@@ -4,35 +4,38 @@ use Rattle.lit_base.specs.Cnf.{Cnf}
 use Rattle.lit_base.specs.declared.proof.Line.{Line}
 use Rattle.solo_core.specs.Log.{lines_of}
 use Rattle.solo_core.specs.declared.lemma.Lemma.{Lemma}
-use Rattle.solo_core.specs.declared.sheet.Mail.{Mail}
+use Rattle.solo_core.specs.declared.sheet.Sheet.{Sheet}
 use Rattle.solo_core.specs.declared.sheet.Settings.{Settings}
 use Rattle.log_merge.specs.Numbering.{Numbering, number_of}
 use Rattle.log_merge.specs.Part.{part_text}
-use Rattle.crew.specs.Era.{Member, stretched, winner_of}
-use Rattle.crew.specs.Run.{members_at, mails_at, last_era}
+use Rattle.crew.specs.Era.{winning_core}
+use Rattle.crew.specs.Run.{mails_at, sheets_at, last_era}
 
--- the parts of an era that others follow: each core's is all lemmas of its stretch
-abbrev pub parts_of : List Member → List (List Lemma)
-parts_of members = map (λ m. (stretched m).state.lemmas) members
+-- the parts that these sheets leave for the log: of each core all lemmas of its stretch
+abbrev pub parts_of : List Sheet → List (List Lemma)
+parts_of sheets = map (λ sheet. sheet.lemmas) sheets
 
--- whether the lemmas of this core stand in the log of the last era: the winner's do, and all do where nobody won
-abbrev pub stands : Option Mail → ℕ → Bool
+-- whether the lemmas of this core stand in the log: the winner's do, and all do where nobody won
+abbrev pub stands : Option ℕ → ℕ → Bool
 stands None core = true
-stands (Some winner) core = winner.core == core
+stands (Some winner) core = winner == core
 
--- the parts of the last era; that of a core which doesn't stand is empty
-abbrev pub last_parts : Option Mail → List Member → List (List Lemma)
-last_parts winner members = map (λ m. if stands winner m.frame.core then (stretched m).state.lemmas else []) members
+-- the parts that stand; that of a core which doesn't stand is empty
+abbrev pub standing_parts : Option ℕ → List Sheet → List (List Lemma)
+standing_parts winner sheets = map (λ sheet. if stands winner sheet.mail.core then sheet.lemmas else []) sheets
 
--- the parts of the eras past, of which there are so many
+-- the parts of the eras past, of which there are so many; the run went on after each of them, so all parts stand
 abbrev pub parts_before : Cnf → Settings → ℕ → List (List (List Lemma))
 parts_before cnf settings zero = []
-parts_before cnf settings (suc past) = parts_before cnf settings past ++ parts_of (members_at cnf settings past) ∷ []
+parts_before cnf settings (suc past) = parts_before cnf settings past ++ parts_of (sheets_at cnf settings past) ∷ []
+
+-- the parts that stand of the era before which so many are past
+abbrev pub era_parts : Cnf → Settings → ℕ → List (List Lemma)
+era_parts cnf settings past = standing_parts (winning_core (mails_at cnf settings past)) (sheets_at cnf settings past)
 
 -- the parts of a run whose last era is the one before which so many are past
 abbrev pub parts_at : Cnf → Settings → ℕ → List (List (List Lemma))
-parts_at cnf settings past =
-    parts_before cnf settings past ++ last_parts (winner_of (mails_at cnf settings past)) (members_at cnf settings past) ∷ []
+parts_at cnf settings past = parts_before cnf settings past ++ era_parts cnf settings past ∷ []
 
 -- the lemmas of some parts, one part after the other
 abbrev pub joined : List (List Lemma) → List Lemma

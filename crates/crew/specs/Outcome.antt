@@ -8,8 +8,8 @@ use Rattle.solo_core.specs.declared.sheet.Settings.{Settings}
 use Rattle.crew.specs.declared.outcome.Verdict.{Verdict}
 use Rattle.crew.specs.declared.outcome.Verdict.TheVariants.{Sat, Unsat, Unknown}
 use Rattle.crew.specs.declared.outcome.Outcome.{Outcome}
-use Rattle.crew.specs.Era.{is_answer, sheets_of}
-use Rattle.crew.specs.Run.{members_at, last_era}
+use Rattle.crew.specs.Era.{is_answer}
+use Rattle.crew.specs.Run.{sheets_at, last_era}
 use Rattle.crew.specs.Log.{all_joined, parts_at}
 
 -- the sheet of the winner: of the first core that has an answer
@@ -46,7 +46,7 @@ outcome_from eras lemmas sheets = let winner = winning_sheet sheets in record {
 -- the outcome of a run whose last era is the one before which so many are past
 abbrev pub outcome_at : Cnf → Settings → ℕ → Outcome
 outcome_at cnf settings past =
-    outcome_from (past + 1) (length (all_joined (parts_at cnf settings past))) (sheets_of (members_at cnf settings past))
+    outcome_from (past + 1) (length (all_joined (parts_at cnf settings past))) (sheets_at cnf settings past)
 
 -- the outcome of the run
 abbrev pub outcome_of : Cnf → Settings → Outcome

@@ -1,15 +1,16 @@
 -- A run: eras, one after the other, up to one that ends it. What holds at an era is said by the number of eras past.
 use Rattle.std.specs.Prelude.{ℕ, zero, suc, ◌+◌, ◌-◌, ◌<◌, ◌≡◌, Bool, false, if◌then◌else◌, List, [], ◌∷◌, map}
 use Rattle.lit_base.specs.Cnf.{Cnf}
-use Rattle.solo_core.specs.First.{AreInRange, frame_of, first_state}
+use Rattle.solo_core.specs.First.{frame_of, first_state}
 use Rattle.solo_core.specs.declared.sheet.End.{End}
 use Rattle.solo_core.specs.declared.sheet.Mail.{Mail}
+use Rattle.solo_core.specs.declared.sheet.Sheet.{Sheet}
 use Rattle.solo_core.specs.declared.sheet.Settings.{Settings}
-use Rattle.crew.specs.Era.{Member, mails_of, is_over, after_era}
+use Rattle.crew.specs.Era.{Member, mails_of, sheets_of, is_over, after_era}
 
--- how many conflicts each core may have in the first era: all that it may have in the run
+-- how many conflicts each core may have in the first era
 abbrev pub first_quota : Settings → ℕ
-first_quota settings = settings.limit
+first_quota settings = settings.period
 
 -- the core of this number at the start of the run
 abbrev pub first_member : Cnf → Settings → ℕ → Member
@@ -30,6 +31,10 @@ members_at cnf settings (suc past) = after_era settings.period (members_at cnf s
 abbrev pub mails_at : Cnf → Settings → ℕ → List Mail
 mails_at cnf settings past = mails_of (members_at cnf settings past)
 
+-- what they leave of it
+abbrev pub sheets_at : Cnf → Settings → ℕ → List Sheet
+sheets_at cnf settings past = sheets_of (members_at cnf settings past)
+
 -- the run has the era before which so many are past: none of those ended it
 abbrev pub HasEra : Cnf → Settings → ℕ → Type 0
 HasEra cnf settings past = (q : ℕ) → q < past → is_over (mails_at cnf settings q) ≡ false
@@ -46,8 +51,3 @@ last_era cnf settings = eras_before (λ past. is_over (mails_at cnf settings pas
 -- how each core ended in the last era
 abbrev pub last_ends : Cnf → Settings → List End
 last_ends cnf settings = map (λ mail. mail.end) (mails_at cnf settings (last_era cnf settings))
-
--- the settings are in their ranges, and there is one core
-pub record AreOfOneCore (settings : Settings) : Type 0 where
-  pub range : AreInRange settings
-  pub one : settings.cores ≡ 1

@@ -1,6 +1,6 @@
 //! What the definitions of a run give on a small formula, computed.
 ghost use Rattle.std.specs.Prelude.{◌≡◌, true, false, [], ◌∷◌, map, Some, None};
-ghost use Rattle.lit_base.specs.Examples.{plain, square, addition, ending};
+ghost use Rattle.lit_base.specs.Examples.{plain, negated, square, addition, ending};
 ghost use Rattle.solo_core.specs.declared.sheet.End.TheVariants as end;
 ghost use Rattle.crew.specs.declared.outcome.Verdict.TheVariants.{Unsat, Unknown};
 ghost use Rattle.crew.specs.Era.{mails_of, is_over, after_era};
@@ -32,7 +32,7 @@ pub fn law_two_cores_in_turn()
     ensures lines { log_lines square (of_cores 2 3) ≡ addition 1 5 (plain 1 ∷ []) (1 ∷ 2 ∷ []) ∷ ending 2 6 (5 ∷ 3 ∷ 4 ∷ []) ∷ [] }
     ensures spent { outcome_of square (of_cores 2 1) ≡
         record { verdict = Unknown; eras = 1; winner = None; model = None; lemmas = 2 } }
-    ensures spent_lines { log_lines square (of_cores 2 1) ≡ addition 1 5 (plain 1 ∷ []) (1 ∷ 2 ∷ []) ∷ addition 2 6 (plain 1 ∷ []) (1 ∷ 2 ∷ []) ∷ [] }
+    ensures spent_lines { log_lines square (of_cores 2 1) ≡ addition 1 5 (plain 1 ∷ []) (1 ∷ 2 ∷ []) ∷ addition 2 6 (negated 1 ∷ []) (3 ∷ 4 ∷ []) ∷ [] }
 {}
 
 /// Two cores with a quota of one conflict are not over after it. They go on in the next period, in which

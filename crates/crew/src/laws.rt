@@ -6,6 +6,7 @@ ghost use Rattle.lit_base.specs.Cnf.{Cnf, IsFormula};
 ghost use Rattle.lit_base.specs.Text.{lines_text};
 ghost use Rattle.lit_base.specs.Truth.{Satisfies};
 ghost use Rattle.lit_base.specs.Judgement.{judge, Checks, HasNoModel};
+ghost use Rattle.solo_core.specs.First.{AreInRange};
 ghost use Rattle.solo_core.specs.Log.{AreNumbered};
 ghost use Rattle.solo_core.specs.Soundness.{EndsEmpty};
 ghost use Rattle.solo_core.specs.declared.sheet.End.{End};
@@ -14,78 +15,77 @@ ghost use Rattle.solo_core.specs.declared.sheet.Settings.{Settings};
 ghost use Rattle.log_merge.specs.Numbering.{number_of};
 ghost use Rattle.crew.specs.declared.outcome.Verdict.TheVariants.{Sat, Unsat, Unknown};
 ghost use Rattle.crew.specs.Era.{is_answer, is_over};
-ghost use Rattle.crew.specs.Run.{mails_at, HasEra, last_era, last_ends, AreOfOneCore};
+ghost use Rattle.crew.specs.Run.{mails_at, HasEra, last_era, last_ends};
 ghost use Rattle.crew.specs.Log.{log_of, numbering_of_run, log_lines, log_text};
 ghost use Rattle.crew.specs.Outcome.{verdict_at, outcome_of};
 
 /// The last era is one of the run and ends it, and no other era does. There are no more eras than
-/// conflicts that a core may have; one core has one era.
+/// conflicts that a core may have.
 pub fn law_run_ends()
-    ensures has { (cnf : Cnf) (settings : Settings) → AreOfOneCore settings → HasEra cnf settings (last_era cnf settings) }
-    ensures over { (cnf : Cnf) (settings : Settings) → AreOfOneCore settings →
+    ensures has { (cnf : Cnf) (settings : Settings) → AreInRange settings → HasEra cnf settings (last_era cnf settings) }
+    ensures over { (cnf : Cnf) (settings : Settings) → AreInRange settings →
         is_over (mails_at cnf settings (last_era cnf settings)) ≡ true }
-    ensures only { (cnf : Cnf) (settings : Settings) (past : ℕ) → AreOfOneCore settings →
+    ensures only { (cnf : Cnf) (settings : Settings) (past : ℕ) → AreInRange settings →
         HasEra cnf settings past → is_over (mails_at cnf settings past) ≡ true → past ≡ last_era cnf settings }
-    ensures within { (cnf : Cnf) (settings : Settings) → AreOfOneCore settings → last_era cnf settings < settings.limit }
-    ensures first { (cnf : Cnf) (settings : Settings) → AreOfOneCore settings → last_era cnf settings ≡ 0 }
+    ensures within { (cnf : Cnf) (settings : Settings) → AreInRange settings → last_era cnf settings < settings.limit }
 {}
 
 /// Whatever the verdict, the lemmas of the log have the numbers behind those of the originals, in their
 /// order and without a gap, and each line follows at its place; the text of the log is that of these lines.
 pub fn law_log_follows()
-    ensures numbered { (cnf : Cnf) (settings : Settings) → IsFormula cnf → AreOfOneCore settings →
+    ensures numbered { (cnf : Cnf) (settings : Settings) → IsFormula cnf → AreInRange settings →
         AreNumbered (number_of (numbering_of_run cnf settings)) (length cnf.clauses + 1) (log_of cnf settings) }
-    ensures in_order { (cnf : Cnf) (settings : Settings) → IsFormula cnf → AreOfOneCore settings →
+    ensures in_order { (cnf : Cnf) (settings : Settings) → IsFormula cnf → AreInRange settings →
         IsOk (judge cnf (log_lines cnf settings)) }
-    ensures text { (cnf : Cnf) (settings : Settings) → IsFormula cnf → AreOfOneCore settings →
+    ensures text { (cnf : Cnf) (settings : Settings) → IsFormula cnf → AreInRange settings →
         log_text cnf settings ≡ lines_text (log_lines cnf settings) }
-    ensures counted { (cnf : Cnf) (settings : Settings) → AreOfOneCore settings →
+    ensures counted { (cnf : Cnf) (settings : Settings) → AreInRange settings →
         (outcome_of cnf settings).lemmas ≡ length (log_of cnf settings) }
 {}
 
 /// Where the verdict is Unsat the last line of the log, and no earlier one, is the empty lemma. The log
 /// is then a proof that checks, and no model satisfies the formula.
 pub fn law_unsat_is_refuted()
-    ensures empty_last { (cnf : Cnf) (settings : Settings) → IsFormula cnf → AreOfOneCore settings →
+    ensures empty_last { (cnf : Cnf) (settings : Settings) → IsFormula cnf → AreInRange settings →
         (outcome_of cnf settings).verdict ≡ Unsat → EndsEmpty (log_of cnf settings) }
-    ensures checks { (cnf : Cnf) (settings : Settings) → IsFormula cnf → AreOfOneCore settings →
+    ensures checks { (cnf : Cnf) (settings : Settings) → IsFormula cnf → AreInRange settings →
         (outcome_of cnf settings).verdict ≡ Unsat → Checks cnf (log_lines cnf settings) }
-    ensures no_model { (cnf : Cnf) (settings : Settings) → IsFormula cnf → AreOfOneCore settings →
+    ensures no_model { (cnf : Cnf) (settings : Settings) → IsFormula cnf → AreInRange settings →
         (outcome_of cnf settings).verdict ≡ Unsat → HasNoModel cnf }
 {}
 
 /// There is a model exactly where the verdict is Sat. It has a value for each variable, and satisfies the
 /// formula.
 pub fn law_model_satisfies_formula()
-    ensures exactly { (cnf : Cnf) (settings : Settings) → AreOfOneCore settings →
+    ensures exactly { (cnf : Cnf) (settings : Settings) → AreInRange settings →
         IsSome (outcome_of cnf settings).model ↔ ((outcome_of cnf settings).verdict ≡ Sat) }
-    ensures values { (cnf : Cnf) (settings : Settings) (model : List Bool) → AreOfOneCore settings →
+    ensures values { (cnf : Cnf) (settings : Settings) (model : List Bool) → AreInRange settings →
         (outcome_of cnf settings).model ≡ Some model → length model ≡ cnf.variables }
-    ensures satisfied { (cnf : Cnf) (settings : Settings) (model : List Bool) → IsFormula cnf → AreOfOneCore settings →
+    ensures satisfied { (cnf : Cnf) (settings : Settings) (model : List Bool) → IsFormula cnf → AreInRange settings →
         (outcome_of cnf settings).model ≡ Some model → Satisfies model cnf }
 {}
 
 /// The verdict is Unknown exactly where every core has spent its limit.
 pub fn law_unknown_where_all_are_spent()
-    ensures { (cnf : Cnf) (settings : Settings) → AreOfOneCore settings →
+    ensures { (cnf : Cnf) (settings : Settings) → AreInRange settings →
         ((outcome_of cnf settings).verdict ≡ Unknown) ↔ AllByRecursion (λ e. e ≡ end.Spent) (last_ends cnf settings) }
 {}
 
 /// There is a winner exactly where the verdict isn't Unknown. Its end is the verdict, and no core of a
 /// lower number has an answer.
 pub fn law_winner_is_first()
-    ensures exactly { (cnf : Cnf) (settings : Settings) → AreOfOneCore settings →
+    ensures exactly { (cnf : Cnf) (settings : Settings) → AreInRange settings →
         IsNone (outcome_of cnf settings).winner ↔ ((outcome_of cnf settings).verdict ≡ Unknown) }
-    ensures own_end { (cnf : Cnf) (settings : Settings) (w : ℕ) → AreOfOneCore settings →
+    ensures own_end { (cnf : Cnf) (settings : Settings) (w : ℕ) → AreInRange settings →
         (outcome_of cnf settings).winner ≡ Some w →
         option_map verdict_at (slice_get (last_ends cnf settings) w) ≡ Some (outcome_of cnf settings).verdict }
-    ensures lowest { (cnf : Cnf) (settings : Settings) (w i : ℕ) (e : End) → AreOfOneCore settings →
+    ensures lowest { (cnf : Cnf) (settings : Settings) (w i : ℕ) (e : End) → AreInRange settings →
         (outcome_of cnf settings).winner ≡ Some w → i < w →
         slice_get (last_ends cnf settings) i ≡ Some e → is_answer e ≡ false }
 {}
 
 /// No core ends with Sat where another ends with Unsat.
 pub fn law_ends_agree()
-    ensures { (cnf : Cnf) (settings : Settings) (i j : ℕ) → IsFormula cnf → AreOfOneCore settings →
+    ensures { (cnf : Cnf) (settings : Settings) (i j : ℕ) → IsFormula cnf → AreInRange settings →
         slice_get (last_ends cnf settings) i ≡ Some end.Sat → slice_get (last_ends cnf settings) j ≡ Some end.Unsat → ⊥ }
 {}

@@ -1,7 +1,7 @@
 //! The ways to run the cores of a portfolio, and the run that all of them give.
 //!
 //! `specs/` has the run as definitions, for any number of cores: eras, the last of them, the outcome and
-//! the log. `run_turns` runs one core on the caller's thread. What makes the answer of a run right stands
+//! the log. `run_turns` runs them in turn on the caller's thread. What makes the answer of a run right stands
 //! in laws: functions without parameters, which do nothing and whose contracts state theorems.
 #![tactic(auto)]
 
@@ -17,9 +17,13 @@ pub use log_merge::Stop;
 pub use outcome::{Outcome, Verdict};
 pub use turns::run_turns;
 
+mod era;
 mod examples;
 mod laws;
+mod logged;
 mod outcome;
+mod searcher;
+mod sheets;
 #[cfg(test)]
 mod tests;
 mod turns;

@@ -1,10 +1,9 @@
-ghost use Rattle.std.specs.Prelude.{◌≡◌, ◌↔◌, IsSome, [], ◌∷◌, length, option_map};
-ghost use Rattle.solo_core.specs.declared.sheet.End.TheVariants as end;
-ghost use Rattle.crew.specs.Era.{winner_of};
+ghost use Rattle.std.specs.Prelude.{◌≡◌};
 ghost use Rattle.crew.specs.Outcome.{verdict_at, outcome_from};
 
+use crate::sheets::winning_sheet;
 use lit_base::Model;
-use solo_core::{End, Mail, Sheet};
+use solo_core::{End, Sheet};
 
 /// What a run says of its formula.
 #[derive(Clone, Copy, Debug, PartialEq, Eq)]
@@ -31,18 +30,25 @@ pub struct Outcome {
     pub lemmas: u64,
 }
 
-/// The outcome of a run of one era and one core, from what the core left of it.
-pub(crate) fn outcome_of(sheet: Sheet) -> Outcome
-    requires { IsSome sheet.model ↔ (sheet.mail.end ≡ end.Sat) }
-    ensures { result ≡ outcome_from 1 (length sheet.lemmas) (sheet ∷ []) }
+/// The outcome of a run of so many eras, with so many lemmas in its log, whose last era left these sheets.
+pub(crate) fn outcome_from(eras: u32, lemmas: u64, sheets: Vec<Sheet>) -> Outcome
+    ensures { result ≡ outcome_from eras lemmas sheets.items }
 {
-    let lemmas = sheet.lemmas.len() as u64;
-    Outcome {
-        verdict: verdict_at(sheet.mail.end),
-        eras: 1,
-        winner: winner_in(&sheet.mail),
-        model: sheet.model,
-        lemmas,
+    match winning_sheet(sheets) {
+        Some(sheet) => Outcome {
+            verdict: verdict_at(sheet.mail.end),
+            eras,
+            winner: Some(sheet.mail.core),
+            model: sheet.model,
+            lemmas,
+        },
+        None => Outcome {
+            verdict: Verdict::Unknown,
+            eras,
+            winner: None,
+            model: None,
+            lemmas,
+        },
     }
 }
 
@@ -54,15 +60,5 @@ fn verdict_at(end: End) -> Verdict
         End::Sat => Verdict::Sat,
         End::Unsat => Verdict::Unsat,
         End::Quota | End::Spent => Verdict::Unknown,
-    }
-}
-
-/// The core of the mail, where it has an answer.
-fn winner_in(mail: &Mail) -> Option<u32>
-    ensures { result ≡ option_map (λ m. m.core) (winner_of (mail.now ∷ [])) }
-{
-    match mail.end {
-        End::Sat | End::Unsat => Some(mail.core),
-        End::Quota | End::Spent => None,
     }
 }

@@ -1,5 +1,5 @@
 ghost use Rattle.std.specs.Prelude.{◌≡◌, ◌≤◌};
-ghost use Rattle.crew.specs.Run.{AreOfOneCore};
+ghost use Rattle.solo_core.specs.First.{AreInRange};
 
 use crate::{
     Outcome, Stop, Verdict, law_ends_agree, law_log_follows, law_model_satisfies_formula,
@@ -37,15 +37,16 @@ fn formula(
     Ok(formula)
 }
 
-/// The settings of one core, whose limit is from 1 to 10.
-fn settings(limit: u32) -> Settings
-    requires some { 1 ≤ limit }
-    requires few { limit ≤ 10 }
-    ensures { AreOfOneCore result }
+/// The settings of a few cores, with a few conflicts in their first period and in all.
+fn settings(cores: u32, period: u32, limit: u32) -> Settings
+    requires cores { (1 ≤ cores) × (cores ≤ 16) }
+    requires period { (1 ≤ period) × (period ≤ 300) }
+    requires limit { (1 ≤ limit) × (limit ≤ 10) }
+    ensures { AreInRange result }
 {
     Settings {
-        cores: 1,
-        period: 300,
+        cores,
+        period,
         share: 8,
         limit,
         seed: 0,
@@ -75,77 +76,122 @@ fn outcome(rt: &impl Abort, run: Result<Outcome, Stop>) -> Result<Outcome, NoMem
 /// The four clauses over two variables, which no model satisfies.
 const SQUARE: &[&[i32]] = &[&[1, 2], &[1, -2], &[-1, 2], &[-1, -2]];
 
-#[test]
-fn one_core_runs_small_formulas(rt: HostRuntime) -> Result<(), Fail> {
-    let alloc = rt.alloc();
-    let keeper = [[1, 2].as_slice(), &[1, -2]];
-    let stepped = [[1, 2, 3].as_slice(), &[1, 2, -3]];
-    let forked = [[1].as_slice(), &[-1, 2, 3], &[-1, 2, -3]];
-    let clashing = [[1].as_slice(), &[2], &[-2, -1], &[-1]];
-    let hollow = [[].as_slice()];
-    for (variables, clauses, limit, verdict, log, values) in [
-        (
-            2,
-            SQUARE,
-            10,
-            Verdict::Unsat,
-            b"5 1 0 1 2 0\n6 0 5 3 4 0\n".as_slice(),
-            [].as_slice(),
-        ),
-        (2, SQUARE, 1, Verdict::Unknown, b"5 1 0 1 2 0\n", &[]),
-        (
-            2,
-            &keeper,
-            10,
-            Verdict::Sat,
-            b"3 1 0 1 2 0\n",
-            &[true, true],
-        ),
-        (
-            3,
-            &stepped,
-            10,
-            Verdict::Sat,
-            b"3 2 1 0 1 2 0\n",
-            &[false, true, true],
-        ),
-        (
-            3,
-            &forked,
-            10,
-            Verdict::Sat,
-            b"4 2 0 1 2 3 0\n",
-            &[true, true, true],
-        ),
-        (2, &clashing, 10, Verdict::Unsat, b"5 0 1 2 3 0\n", &[]),
-        (1, &hollow, 10, Verdict::Unsat, b"2 0 1 0\n", &[]),
-        (1, &[], 10, Verdict::Sat, b"", &[false]),
-    ] {
-        let formula = formula(&rt, alloc, variables, clauses)?;
+/// A formula with the limit of a run on it, and what one core leaves: its verdict, its log, and the values of a model.
+struct Row {
+    variables: u32,
+    clauses: &'static [&'static [i32]],
+    limit: u32,
+    verdict: Verdict,
+    log: &'static [u8],
+    values: &'static [bool],
+}
+
+/// The rows whose formula has a model.
+const SATISFIABLE: &[Row] = &[
+    Row {
+        variables: 2,
+        clauses: &[&[1, 2], &[1, -2]],
+        limit: 10,
+        verdict: Verdict::Sat,
+        log: b"3 1 0 1 2 0\n",
+        values: &[true, true],
+    },
+    Row {
+        variables: 3,
+        clauses: &[&[1, 2, 3], &[1, 2, -3]],
+        limit: 10,
+        verdict: Verdict::Sat,
+        log: b"3 2 1 0 1 2 0\n",
+        values: &[false, true, true],
+    },
+    Row {
+        variables: 3,
+        clauses: &[&[1], &[-1, 2, 3], &[-1, 2, -3]],
+        limit: 10,
+        verdict: Verdict::Sat,
+        log: b"4 2 0 1 2 3 0\n",
+        values: &[true, true, true],
+    },
+    Row {
+        variables: 1,
+        clauses: &[],
+        limit: 10,
+        verdict: Verdict::Sat,
+        log: b"",
+        values: &[false],
+    },
+];
+
+/// The rows in which no model is found: the formula has none, or the limit is spent.
+const OTHERS: &[Row] = &[
+    Row {
+        variables: 2,
+        clauses: SQUARE,
+        limit: 10,
+        verdict: Verdict::Unsat,
+        log: b"5 1 0 1 2 0\n6 0 5 3 4 0\n",
+        values: &[],
+    },
+    Row {
+        variables: 2,
+        clauses: SQUARE,
+        limit: 1,
+        verdict: Verdict::Unknown,
+        log: b"5 1 0 1 2 0\n",
+        values: &[],
+    },
+    Row {
+        variables: 2,
+        clauses: &[&[1], &[2], &[-2, -1], &[-1]],
+        limit: 10,
+        verdict: Verdict::Unsat,
+        log: b"5 0 1 2 3 0\n",
+        values: &[],
+    },
+    Row {
+        variables: 1,
+        clauses: &[&[]],
+        limit: 10,
+        verdict: Verdict::Unsat,
+        log: b"2 0 1 0\n",
+        values: &[],
+    },
+];
+
+/// Runs one core on each row and compares what it leaves.
+fn compare(rt: &impl Abort, alloc: Global, rows: &[Row]) -> Result<(), Fail> {
+    for row in rows.iter() {
+        assert!(rt; 1 <= row.limit && row.limit <= 10 && row.variables <= 10);
+        let formula = formula(rt, alloc, row.variables, row.clauses)?;
         let mut outputs = outputs(alloc, 7, 1000)?;
-        let run = run_turns(alloc, &formula, &settings(limit), true, &mut outputs);
-        let outcome = outcome(&rt, run)?;
-        assert_eq!(rt; outcome.verdict, verdict);
+        let run = run_turns(
+            alloc,
+            &formula,
+            &settings(1, 300, row.limit),
+            true,
+            &mut outputs,
+        );
+        let outcome = outcome(rt, run)?;
+        assert_eq!(rt; outcome.verdict, row.verdict);
         assert_eq!(rt; outcome.eras, 1);
-        assert_eq!(rt;
-            outcome.winner,
-            if verdict == Verdict::Unknown {
-                None
-            } else {
-                Some(0)
-            }
-        );
-        assert_eq!(rt; outputs.kept(Port::Log), log);
-        assert_eq!(rt;
-            outcome.lemmas,
-            log.iter().filter(|byte| **byte == b'\n').count() as u64
-        );
-        assert_eq!(rt; outcome.model.is_some(), verdict == Verdict::Sat);
+        let answered = row.verdict != Verdict::Unknown;
+        assert_eq!(rt; outcome.winner, if answered { Some(0) } else { None });
+        assert_eq!(rt; outputs.kept(Port::Log), row.log);
+        let lines = row.log.iter().filter(|byte| **byte == b'\n').count();
+        assert_eq!(rt; outcome.lemmas, lines as u64);
+        assert_eq!(rt; outcome.model.is_some(), row.verdict == Verdict::Sat);
         if let Some(model) = &outcome.model {
-            assert_eq!(rt; model.values(), values);
+            assert_eq!(rt; model.values(), row.values);
         }
     }
     Ok(())
+}
+
+#[test]
+fn one_core_runs_small_formulas(rt: HostRuntime) -> Result<(), Fail> {
+    let alloc = rt.alloc();
+    compare(&rt, alloc, SATISFIABLE)?;
+    compare(&rt, alloc, OTHERS)
 }
 
 #[test]
@@ -155,18 +201,55 @@ fn a_log_is_written_where_it_is_wanted_up_to_a_write_that_fails(
     let alloc = rt.alloc();
     let formula = formula(&rt, alloc, 2, SQUARE)?;
     let mut unwanted = outputs(alloc, 9, 1)?;
-    let run = run_turns(alloc, &formula, &settings(10), false, &mut unwanted);
+    let run = run_turns(alloc, &formula, &settings(1, 300, 10), false, &mut unwanted);
     assert_eq!(rt; outcome(&rt, run)?.lemmas, 2);
     for port in [Port::Answer, Port::Log, Port::Complaint] {
         assert_eq!(rt; unwanted.kept(port).len(), 0);
     }
     let mut wanted = outputs(alloc, 9, 2)?;
-    match run_turns(alloc, &formula, &settings(10), true, &mut wanted) {
+    match run_turns(alloc, &formula, &settings(1, 300, 10), true, &mut wanted) {
         Ok(_) => assert!(rt; false, "the log can't be written"),
         Err(Stop::NoMemory) => return Err(Fail::from(NoMemory)),
         Err(Stop::WriteFault) => assert_eq!(rt; wanted.kept(Port::Log), b"5 1 0 1 2".as_slice()),
     }
     assert_eq!(rt; wanted.kept(Port::Answer).len(), 0);
+    Ok(())
+}
+
+#[test]
+fn two_cores_run_two_eras(rt: HostRuntime) -> Result<(), Fail> {
+    let alloc = rt.alloc();
+    let formula = formula(&rt, alloc, 2, SQUARE)?;
+    let mut outputs = outputs(alloc, 64, 1000)?;
+    let run = run_turns(alloc, &formula, &settings(2, 1, 10), true, &mut outputs);
+    let outcome = outcome(&rt, run)?;
+    assert_eq!(rt; outcome.verdict, Verdict::Unsat);
+    assert_eq!(rt; outcome.eras, 2);
+    assert_eq!(rt; outcome.winner, Some(0));
+    assert_eq!(rt; outcome.lemmas, 3);
+    assert!(rt; outcome.model.is_none());
+    assert_eq!(rt;
+        outputs.kept(Port::Log),
+        b"5 1 0 1 2 0\n6 -1 0 3 4 0\n7 0 5 6 0\n".as_slice()
+    );
+    Ok(())
+}
+
+#[test]
+fn a_write_that_fails_in_a_later_era_leaves_the_earlier_one(rt: HostRuntime) -> Result<(), Fail> {
+    let alloc = rt.alloc();
+    let formula = formula(&rt, alloc, 2, SQUARE)?;
+    let mut outputs = outputs(alloc, 64, 3)?;
+    match run_turns(alloc, &formula, &settings(2, 1, 10), true, &mut outputs) {
+        Ok(_) => assert!(rt; false, "the log can't be written"),
+        Err(Stop::NoMemory) => return Err(Fail::from(NoMemory)),
+        Err(Stop::WriteFault) => {
+            assert_eq!(rt;
+                outputs.kept(Port::Log),
+                b"5 1 0 1 2 0\n6 -1 0 3 4 0\n".as_slice()
+            );
+        }
+    }
     Ok(())
 }
 

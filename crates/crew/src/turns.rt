@@ -1,24 +1,26 @@
-ghost use Rattle.std.specs.Prelude.{◌≡◌, IfOk};
-ghost use Rattle.desk_io.specs.Outputs.{WritesWhole};
-ghost use Rattle.log_merge.specs.Writing.{WritesPart};
-ghost use Rattle.crew.specs.Era.{stretched, sheet_left};
-ghost use Rattle.crew.specs.Run.{first_quota, first_member, AreOfOneCore};
+ghost use Rattle.std.specs.Prelude.{◌≡◌, map, IfOk};
+ghost use Rattle.lit_base.specs.Cnf.{IsFormula};
+ghost use Rattle.solo_core.specs.First.{AreInRange};
+ghost use Rattle.crew.specs.Run.{first_quota, members_at};
 ghost use Rattle.crew.specs.Log.{log_text};
 ghost use Rattle.crew.specs.Outcome.{outcome_of};
-ghost use Rattle.crew.specs.Turns.{without_outcome, WritesLog};
+ghost use Rattle.crew.specs.Turns.{without_outcome, WritesLog, begun};
 
-use crate::outcome::{Outcome, outcome_of};
+use crate::era::{end_era, stretch_era};
+use crate::logged::Logged;
+use crate::outcome::Outcome;
+use crate::searcher::Searcher;
 use desk_io::Outputs;
 use lit_base::{Formula, NoMemory};
-use log_merge::{Numbers, Stop, write_part};
-use solo_core::{Core, Lemma, Settings, Sheet};
+use log_merge::{Numbers, Stop};
+use solo_core::{Core, Settings};
 use std::alloc::Global;
 
 /// Runs the cores in turn on the caller's thread, and where `log` is true writes the log to its port.
 ///
-/// Each setting is in its range, and there is one core. `WriteFault` says that the log could not be
-/// written, and `NoMemory` that memory ran out; a front of the log has then been written. Where `log` is
-/// false the outputs stay as they are.
+/// Each setting is in its range. `WriteFault` says that the log could not be written, and `NoMemory` that
+/// memory ran out; a front of the log has then been written. Where `log` is false the outputs stay as they
+/// are.
 pub fn run_turns<O: Outputs>(
     alloc: Global,
     formula: &Formula,
@@ -26,71 +28,73 @@ pub fn run_turns<O: Outputs>(
     log: bool,
     outputs: &mut O,
 ) -> Result<Outcome, Stop>
-    requires { AreOfOneCore settings.now }
+    requires { AreInRange settings.now }
     ensures outcome { IfOk result (λ outcome. outcome ≡ outcome_of formula.now settings.now) }
     ensures writes { WritesLog log (log_text formula.now settings.now) (O.told outputs.old) (O.told outputs.new) (without_outcome result) }
 {
-    let sheet = run_core(alloc, formula, settings)?;
-    write_wanted(
+    let mut searchers = make_all(alloc, formula, settings)?;
+    eras_in_turn(
         alloc,
+        searchers.as_mut_slice(),
         formula,
         settings,
-        sheet.lemmas.as_slice(),
         log,
         outputs,
-    )?;
-    Ok(outcome_of(sheet))
+    )
 }
 
-/// How many conflicts each core may have in the first era.
-fn first_quota(settings: &Settings) -> u32
-    ensures { result ≡ first_quota settings.now }
-{
-    settings.limit
-}
-
-/// What core 0 leaves of the first era.
-fn run_core(alloc: Global, formula: &Formula, settings: &Settings) -> Result<Sheet, NoMemory>
-    requires { AreOfOneCore settings.now }
-    ensures { IfOk result (λ sheet. sheet ≡ sheet_left (first_member formula.now settings.now 0)) }
-{
-    let mut core = Core::make(alloc, formula, settings, 0)?;
-    core.stretch(first_quota(settings))?;
-    core.sheet()
-}
-
-/// Writes the log of a run of one era and one core, if it is wanted.
-fn write_wanted<O: Outputs>(
+/// The eras of a run, up to one that ends it, from the cores at its start.
+fn eras_in_turn<O: Outputs>(
     alloc: Global,
+    searchers: &mut [Searcher],
     formula: &Formula,
     settings: &Settings,
-    lemmas: &[Lemma],
     log: bool,
     outputs: &mut O,
-) -> Result<(), Stop>
-    requires settings { AreOfOneCore settings.now }
-    requires lemmas { lemmas.now ≡ (stretched (first_member formula.now settings.now 0)).state.lemmas }
-    ensures { WritesLog log (log_text formula.now settings.now) (O.told outputs.old) (O.told outputs.new) result }
+) -> Result<Outcome, Stop>
+    requires settings { AreInRange settings.now }
+    requires begun { searchers.old ≡ map begun (members_at formula.now settings.now 0) }
+    ensures outcome { IfOk result (λ outcome. outcome ≡ outcome_of formula.now settings.now) }
+    ensures writes { WritesLog log (log_text formula.now settings.now) (O.told outputs.old) (O.told outputs.new) (without_outcome result) }
 {
-    if !log {
-        return Ok(());
+    let mut logged = Logged {
+        numbers: Numbers::new(alloc, formula.len() as u64, settings.cores),
+        lemmas: 0,
+    };
+    for past in 0..settings.limit {
+        stretch_era(searchers, formula, settings, past);
+        let ended = end_era(
+            alloc,
+            searchers,
+            &mut logged,
+            log,
+            formula,
+            settings,
+            past,
+            outputs,
+        )?;
+        if let Some(outcome) = ended {
+            return Ok(outcome);
+        }
     }
-    write_log(alloc, formula, settings, lemmas, outputs)
+    unreachable!()
 }
 
-/// Writes the log of a run of one era and one core, whose lemmas these are.
-fn write_log<O: Outputs>(
+/// The cores at the start of the run.
+fn make_all(
     alloc: Global,
     formula: &Formula,
     settings: &Settings,
-    lemmas: &[Lemma],
-    outputs: &mut O,
-) -> Result<(), Stop>
-    requires settings { AreOfOneCore settings.now }
-    requires lemmas { lemmas.now ≡ (stretched (first_member formula.now settings.now 0)).state.lemmas }
-    ensures { WritesPart (log_text formula.now settings.now) (O.told outputs.old) (O.told outputs.new) result }
+) -> Result<Vec<Searcher>, NoMemory>
+    requires { AreInRange settings.now }
+    ensures { IfOk result (λ searchers. searchers.items ≡ map begun (members_at formula.now settings.now 0)) }
 {
-    let mut numbers = Numbers::new(alloc, formula.len() as u64, settings.cores);
-    numbers.end_period(&[lemmas.len() as u64])?;
-    write_part(alloc, &numbers, lemmas, outputs)
+    let mut searchers = Vec::with_capacity(alloc, settings.cores as usize)?;
+    for number in 0..settings.cores {
+        searchers.push(Searcher {
+            core: Core::make(alloc, formula, settings, number)?,
+            quota: settings.period,
+        })?;
+    }
+    Ok(searchers)
 }

@@ -1,4 +1,4 @@
-use Rattle.crew.proofs.OneOutcome.{unsat_ends_empty, unsat_checks, unsat_no_model}
+use Rattle.crew.proofs.RunLog.{unsat_ends_empty, unsat_checks, unsat_no_model}
 use Rattle.crew.proofs.laws.law_unsat_is_refuted.Goals as goal
 
 pub returns : goal.returns

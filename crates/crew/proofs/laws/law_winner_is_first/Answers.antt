@@ -1,4 +1,4 @@
-use Rattle.crew.proofs.OneOutcome.{winner_exactly, winner_end, winner_lowest}
+use Rattle.crew.proofs.RunOutcome.{winner_exactly, winner_end, winner_lowest}
 use Rattle.crew.proofs.laws.law_winner_is_first.Goals as goal
 
 pub returns : goal.returns

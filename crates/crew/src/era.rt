@@ -1,0 +1,128 @@
+//! An era of the cores.
+ghost use Rattle.std.specs.Prelude.{◌≡◌, ◌+◌, ◌<◌, true, false, map, All, Some, None, IfOk, OnOk, if◌then◌else◌};
+ghost use Rattle.crew.specs.Era.{mails_of, is_over};
+ghost use Rattle.crew.specs.Run.{members_at, mails_at, sheets_at};
+ghost use Rattle.crew.specs.Outcome.{outcome_at};
+ghost use Rattle.crew.specs.Turns.{IsEra, AreEach, MayWork, HasWorked, HaveWorked, WritesLog, era_text, begun, at_rest, logged_before, logged_at, without_answer};
+
+use crate::logged::{Logged, log_era};
+use crate::outcome::{Outcome, outcome_from};
+use crate::searcher::{Searcher, import_one, sheet_one, stretch_one};
+use crate::sheets::{is_over, largest_volume, mails_in};
+use desk_io::Outputs;
+use lit_base::{Formula, NoMemory};
+use log_merge::Stop;
+use solo_core::{Settings, Sheet};
+use std::alloc::Global;
+
+/// Makes the stretch of each core, one after the other. A core to which memory is refused is broken.
+fn stretch_all(searchers: &mut [Searcher])
+    requires { All MayWork searchers.old }
+    ensures { AreEach HasWorked searchers.old searchers.new }
+{
+    for i in 0..searchers.len() {
+        stretch_one(&mut searchers[i]);
+    }
+}
+
+/// The stretches of an era, in turn on the caller's thread.
+pub(crate) fn stretch_era(
+    searchers: &mut [Searcher],
+    _formula: &Formula,
+    _settings: &Settings,
+    _past: u32,
+)
+    requires era { IsEra _formula.now _settings.now _past }
+    requires begun { searchers.old ≡ map begun (members_at _formula.now _settings.now _past) }
+    ensures { HaveWorked _formula.now _settings.now _past searchers.new }
+{
+    stretch_all(searchers);
+}
+
+/// What each core leaves of an era, if none is broken.
+fn take_sheets(
+    alloc: Global,
+    searchers: &mut [Searcher],
+    formula: &Formula,
+    settings: &Settings,
+    past: u32,
+) -> Result<Vec<Sheet>, NoMemory>
+    requires worked { HaveWorked formula.now settings.now past searchers.old }
+    ensures sheets { IfOk result (λ sheets. sheets.items ≡ sheets_at formula.now settings.now past) }
+    ensures rest { OnOk result (searchers.new ≡ map at_rest (members_at formula.now settings.now past)) }
+{
+    let mut sheets = Vec::with_capacity(alloc, searchers.len())?;
+    for i in 0..searchers.len() {
+        sheets.push(sheet_one(&mut searchers[i], i, formula, settings, past)?)?;
+    }
+    Ok(sheets)
+}
+
+/// Brings all cores to the next era.
+fn import_all(
+    alloc: Global,
+    searchers: &mut [Searcher],
+    sheets: Vec<Sheet>,
+    formula: &Formula,
+    settings: &Settings,
+    past: u32,
+) -> Result<(), NoMemory>
+    requires era { IsEra formula.now settings.now past }
+    requires goes_on { is_over (mails_at formula.now settings.now past) ≡ false }
+    requires rest { searchers.old ≡ map at_rest (members_at formula.now settings.now past) }
+    requires sheets { sheets.items ≡ sheets_at formula.now settings.now past }
+    ensures { OnOk result (searchers.new ≡ map begun (members_at formula.now settings.now (past + 1))) }
+{
+    let mut mails = mails_in(alloc, sheets)?;
+    let largest = largest_volume(mails.as_slice());
+    for i in 0..searchers.len() {
+        import_one(
+            &mut searchers[i],
+            &mut mails,
+            i,
+            largest,
+            formula,
+            settings,
+            past,
+        )?;
+    }
+    Ok(())
+}
+
+/// Ends an era in which each core has made its stretch: its part of the log is written, and either the run is over and has
+/// this outcome, or the cores are brought to the next era.
+pub(crate) fn end_era<O: Outputs>(
+    alloc: Global,
+    searchers: &mut [Searcher],
+    logged: &mut Logged,
+    log: bool,
+    formula: &Formula,
+    settings: &Settings,
+    past: u32,
+    outputs: &mut O,
+) -> Result<Option<Outcome>, Stop>
+    requires era { IsEra formula.now settings.now past }
+    requires worked { HaveWorked formula.now settings.now past searchers.old }
+    requires logged { logged.old ≡ logged_before formula.now settings.now log past }
+    ensures outcome { IfOk result (λ outcome. outcome ≡ (if is_over (mails_at formula.now settings.now past) then Some (outcome_at formula.now settings.now past) else None)) }
+    ensures next { OnOk result (is_over (mails_at formula.now settings.now past) ≡ false → searchers.new ≡ map begun (members_at formula.now settings.now (past + 1))) }
+    ensures logged { OnOk result (is_over (mails_at formula.now settings.now past) ≡ false → logged.new ≡ logged_before formula.now settings.now log (past + 1)) }
+    ensures writes { WritesLog log (era_text formula.now settings.now past) (O.told outputs.old) (O.told outputs.new) (without_answer result) }
+{
+    let sheets = take_sheets(alloc, searchers, formula, settings, past)?;
+    log_era(
+        alloc,
+        logged,
+        sheets.as_slice(),
+        log,
+        formula,
+        settings,
+        past,
+        outputs,
+    )?;
+    if is_over(sheets.as_slice()) {
+        return Ok(Some(outcome_from(past + 1, logged.lemmas, sheets)));
+    }
+    import_all(alloc, searchers, sheets, formula, settings, past)?;
+    Ok(None)
+}
