@@ -14,7 +14,7 @@ use Rattle.dp2ll.specs.declared.finding.Finding.{Finding}
 use Rattle.dp2ll.specs.declared.ending.ProofStop.{ProofStop}
 use Rattle.dp2ll.specs.declared.ending.ProofStop.TheVariants.{ReadFault, NoMemory}
 use Rattle.dp2ll.specs.Reading.{KeepsSlot, TakesPiece}
-use Rattle.dp2ll.specs.Judging.{GoesOnProof, IsJudged, StopsJudging, FindsEarly, IsJudging, JudgesNext, HasJudgedTo, JudgesText, JudgesOn, JudgesLast, JudgesWhole, StopsAtRead, JudgesPiece, IsBetween}
+use Rattle.dp2ll.specs.Judging.{GoesOnProof, IsJudged, StopsJudging, FindsEarly, IsJudging, JudgesNext, HasJudgedTo, JudgesText, JudgesOn, JudgesLast, JudgesWhole, StopsAtRead, JudgesPiece, IsBetween, HasGoneOn}
 use Rattle.dp2ll.proofs.ReadingLemmas.{prepend_nothing, taken_on, rose_since, takes_more, takes_judged, kept_twice}
 
 -- where judging stands, one more piece is read
@@ -34,7 +34,7 @@ piece_judged cnf before after reader checker taken (Err ReadFault) takes some ju
 piece_judged cnf before after reader checker taken (Err NoMemory) takes some judges = inl takes
 
 -- where judging stands before the first read
-pub between_starts : (cnf : Cnf) (start : InputsTold) (reader : ReaderState) (checker : Checker) → IsJudging cnf reader checker [] []
+between_starts : (cnf : Cnf) (start : InputsTold) (reader : ReaderState) (checker : Checker) → IsJudging cnf reader checker [] []
     → IsBetween cnf start start reader checker 0
 between_starts cnf start reader checker judging = record {
   kept = record { held = refl; begun = refl; begins = refl; later = omega arith; others = refl };
@@ -46,7 +46,7 @@ between_starts cnf start reader checker judging = record {
 }
 
 -- and after one read more
-pub between_goes_on : (cnf : Cnf) (start now next : InputsTold) (reader after_reader : ReaderState) (checker after_checker : Checker) (turns : ℕ)
+between_goes_on : (cnf : Cnf) (start now next : InputsTold) (reader after_reader : ReaderState) (checker after_checker : Checker) (turns : ℕ)
     → (h : IsBetween cnf start now reader checker turns) → KeepsSlot Proof now next
     → JudgesOn cnf (now.at Proof) (next.at Proof) after_reader after_checker h.taken
     → IsBetween cnf start next after_reader after_checker (turns + 1)
@@ -57,6 +57,25 @@ between_goes_on cnf start now next reader after_reader checker after_checker tur
   judging = t.judging;
   turns_taken = omega (arith, length-append h.taken t.takes.bytes, h.turns_taken, t.some);
   rest = taken_on h.taken t.takes.bytes (start.at Proof).left (now.at Proof).left (next.at Proof).left h.rest t.takes.left;
+}
+
+-- a fresh reader and checker have gone on over nothing
+pub gone_on_first : (start : InputsTold) (reader : ReaderState) (checker : Checker) → HasGoneOn start start reader checker reader checker 0
+gone_on_first start reader checker = record {
+  kept = record { held = refl; begun = refl; begins = refl; later = omega arith; others = refl };
+  between = λ cnf judging. between_starts cnf start reader checker judging;
+}
+
+-- and on over one piece more
+pub gone_on : (start now next : InputsTold) (first_reader : ReaderState) (first_checker : Checker) (reader after_reader : ReaderState)
+    (checker after_checker : Checker) (turns : ℕ) → HasGoneOn start now first_reader first_checker reader checker turns → KeepsSlot Proof now next
+    → ((cnf : Cnf) (taken : List ℕ) (lines : List Line) → IsJudging cnf reader checker taken lines
+    → JudgesOn cnf (now.at Proof) (next.at Proof) after_reader after_checker taken)
+    → HasGoneOn start next first_reader first_checker after_reader after_checker (turns + 1)
+gone_on start now next first_reader first_checker reader after_reader checker after_checker turns h kept piece = record {
+  kept = kept_twice Proof start now next h.kept kept;
+  between = λ cnf fresh. let b = h.between cnf fresh in
+      between_goes_on cnf start now next reader after_reader checker after_checker turns b kept (piece cnf b.taken b.lines b.judging);
 }
 
 -- more turns than a proof may have bytes can't be taken

@@ -25,15 +25,15 @@ digits_of : (text : List ℕ) → is_number text ≡ true → AreDigits text
 digits_of text is = record { all = grind (arith, common_steps, is); some = grind (arith, common_steps, is) }
 
 -- digits that weren't read stand for no number of so few bits
-pub too_large : {E : Type 0} (text : List ℕ) (fault : E) (low high : ℕ) → is_number text ≡ true → high < 4294967296
-    → ParsesUnsigned 32 10 text (Err fault) → None ≡ number_of low high text
+pub too_large : {E : Type 0} (text : List ℕ) (fault : E) (low high : ℕ) → is_number text ≡ true → high < 18446744073709551616
+    → ParsesUnsigned 64 10 text (Err fault) → None ≡ number_of low high text
 too_large text fault low high is small read =
     by (is_number text && (nat_le low (digits_value 10 text) && nat_le (digits_value 10 text) high)) refl
   where
     by : (test : Bool) → (is_number text && (nat_le low (digits_value 10 text) && nat_le (digits_value 10 text) high)) ≡ test
         → None ≡ cond test (Some (digits_value 10 text)) None
     by false fails = refl
-    by true holds = absurd (parse_digits own 32 text (Err fault) read (digits_of text is).all ((digits_of text is).some, grind (arith, common_steps, holds, small)))
+    by true holds = absurd (parse_digits own 64 text (Err fault) read (digits_of text is).all ((digits_of text is).some, grind (arith, common_steps, holds, small)))
 
 -- fewer than two words are options where there are none
 pub none_left : {T : Type 0} (f : T → List ℕ) (rest : List T) → length rest < 2 → (length rest == 0) ≡ are_options (map f rest)

@@ -4,7 +4,7 @@ use Rattle.std.specs.List.{list_all}
 use Rattle.std.specs.Char.{is_ascii_digit}
 use Rattle.std.specs.Str.Parse.{digits_value}
 use Rattle.solo_core.specs.declared.sheet.Settings.{Settings}
-use Rattle.crew.specs.Run.{AreOfOneCore}
+use Rattle.solo_core.specs.First.{AreInRange}
 use Rattle.dp2ll.specs.declared.words.Job.{Job}
 use Rattle.dp2ll.specs.declared.words.Job.TheVariants.{Solve, Check}
 use Rattle.dp2ll.specs.declared.words.WordFault.{WordFault}
@@ -35,7 +35,8 @@ number_or low high otherwise (Some text) = number_of low high text
 
 -- the options of `solve`: each is two words, its name and a value
 abbrev pub is_option : List ℕ → List ℕ → Bool
-is_option name value = (bytes_eq name (codes "--cores") || bytes_eq name (codes "--limit") || bytes_eq name (codes "--log")) && is_file_word value
+is_option name value = (bytes_eq name (codes "--cores") || bytes_eq name (codes "--period") || bytes_eq name (codes "--share") || bytes_eq name (codes "--limit")
+    || bytes_eq name (codes "--seed") || bytes_eq name (codes "--log")) && is_file_word value
 
 -- the words are options, one after the other
 abbrev pub are_options : List (List ℕ) → Bool
@@ -59,15 +60,28 @@ once (value ∷ another ∷ more) = None
 abbrev pub number_under : List ℕ → ℕ → ℕ → ℕ → List (List ℕ) → Option ℕ
 number_under name low high otherwise options = option_and_then (number_or low high otherwise) (once (values_under name options))
 
--- the settings of so many cores with this limit; the others can't be chosen yet
-abbrev pub settings_with : ℕ → ℕ → Settings
-settings_with cores limit = record { cores = cores; period = 300; share = 8; limit = limit; seed = 0 }
+-- how many conflicts a core has in its first period, by default
+abbrev pub usual_period : ℕ
+usual_period = 300
 
--- the settings that options give: one core, and at most so many conflicts of it
+-- up to how many literals a lemma is posted, by default
+abbrev pub usual_share : ℕ
+usual_share = 8
+
+-- the settings of a run, where all are given
+abbrev pub settings_with : ℕ → ℕ → ℕ → ℕ → ℕ → Settings
+settings_with cores period share limit seed = record { cores = cores; period = period; share = share; limit = limit; seed = seed }
+
+-- the settings that options give: how many cores, their first period, the longest lemma that they post, their limit of
+-- conflicts, and the seed of their start activities
 abbrev pub settings_of : List (List ℕ) → Option Settings
 settings_of options =
-    option_and_then (λ cores. option_map (settings_with cores) (number_under (codes "--limit") 1 1000000000 10000000 options))
-    (number_under (codes "--cores") 1 1 1 options)
+    option_and_then (λ cores. option_and_then (λ period. option_and_then (λ share. option_and_then (λ limit.
+    option_map (settings_with cores period share limit) (number_under (codes "--seed") 0 18446744073709551615 0 options))
+    (number_under (codes "--limit") 1 1000000000 10000000 options))
+    (number_under (codes "--share") 0 64 usual_share options))
+    (number_under (codes "--period") 1 100000 usual_period options))
+    (number_under (codes "--cores") 1 16 4 options)
 
 -- == jobs ==
 
@@ -94,9 +108,9 @@ job_of [] = None
 job_of (command ∷ arguments) =
     if bytes_eq command (codes "solve") then solve_of arguments else (if bytes_eq command (codes "check") then check_of arguments else None)
 
--- a job's settings are in their ranges, with one core
+-- a job's settings are in their ranges
 abbrev pub IsInRange : Job → Type 0
-IsInRange (Solve file log settings) = AreOfOneCore settings
+IsInRange (Solve file log settings) = AreInRange settings
 IsInRange (Check file proof) = Unit {0}
 
 -- reading the words gives their job, and a usage fault exactly where there is none

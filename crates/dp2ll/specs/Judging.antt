@@ -211,6 +211,16 @@ pub record IsBetween (cnf : Cnf) (start now : InputsTold) (reader : ReaderState)
   pub turns_taken : turns ≤ length taken
   pub rest : (start.at Proof).left ≡ prepend_known taken (now.at Proof).left
 
+-- reader and checker of some formula's proof have taken nothing
+pub record IsFresh (reader : ReaderState) (checker : Checker) : Type 0 where
+  pub cnf : Cnf
+  pub judging : IsJudging cnf reader checker [] []
+
+-- judging has gone on from a fresh reader and checker, for each formula whose proof they judge
+pub record HasGoneOn (start now : InputsTold) (first_reader : ReaderState) (first_checker : Checker) (reader : ReaderState) (checker : Checker) (turns : ℕ) : Type 0 where
+  pub kept : KeepsSlot Proof start now
+  pub between : (cnf : Cnf) → IsJudging cnf first_reader first_checker [] [] → IsBetween cnf start now reader checker turns
+
 -- what judging all pieces of what is left says
 abbrev pub JudgesPieces : Cnf → SlotTold → SlotTold → Result Finding ProofStop → Type 0
 JudgesPieces cnf before after result = JudgesFile cnf before.left before after result

@@ -1,6 +1,6 @@
 ghost use Rattle.std.specs.Prelude.{◌≡◌, ◌≤◌, [], None, IfOk};
 ghost use Rattle.desk_io.specs.declared.Port.TheVariants.{Answer, Log};
-ghost use Rattle.crew.specs.Run.{AreOfOneCore};
+ghost use Rattle.solo_core.specs.First.{AreInRange};
 ghost use Rattle.crew.specs.Log.{log_text};
 ghost use Rattle.crew.specs.Outcome.{outcome_of};
 ghost use Rattle.dp2ll.specs.Answering.{Answers, AnswersPort, WritesTexts, page_of, KeepsComplaint};
@@ -27,7 +27,7 @@ pub(crate) fn answer<O: Outputs>(
     log: &Option<Text>,
     outputs: &mut O,
 ) -> Result<Verdict, WriteStop>
-    requires { AreOfOneCore settings.now }
+    requires { AreInRange settings.now }
     ensures answers { Answers formula.now settings.now log.now (page_of (O.told outputs.old)) (page_of (O.told outputs.new)) result }
     ensures complaint { KeepsComplaint (O.told outputs.old) (O.told outputs.new) }
 {
@@ -47,7 +47,7 @@ fn run_logged<O: Outputs>(
     log: &Option<Text>,
     outputs: &mut O,
 ) -> Result<Outcome, WriteStop>
-    requires { AreOfOneCore settings.now }
+    requires { AreInRange settings.now }
     ensures outcome { IfOk result (λ outcome. outcome ≡ outcome_of formula.now settings.now) }
     ensures log { KeepsLog log.now (log_text formula.now settings.now) (log_told (O.told outputs.old)) (log_told (O.told outputs.new))
         (without_outcome result) }

@@ -1,6 +1,6 @@
 ghost use Rattle.lit_base.specs.Cnf.{Cnf, IsFormula};
 ghost use Rattle.solo_core.specs.declared.sheet.Settings.{Settings};
-ghost use Rattle.crew.specs.Run.{AreOfOneCore};
+ghost use Rattle.solo_core.specs.First.{AreInRange};
 ghost use Rattle.dp2ll.specs.Outcome.{IsBacked};
 
 use crew::{
@@ -11,7 +11,7 @@ use crew::{
 /// The verdict of a run is backed: by a model that satisfies the formula, by a log that checks, or by the limits that all
 /// cores have spent.
 pub(crate) fn law_verdict_is_backed()
-    ensures { (cnf : Cnf) (settings : Settings) → IsFormula cnf → AreOfOneCore settings → IsBacked cnf settings }
+    ensures { (cnf : Cnf) (settings : Settings) → IsFormula cnf → AreInRange settings → IsBacked cnf settings }
 {
     law_log_follows();
     law_unsat_is_refuted();

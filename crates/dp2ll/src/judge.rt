@@ -4,7 +4,7 @@ ghost use Rattle.lit_base.specs.declared.proof.Line.{Line as ProofLine};
 ghost use Rattle.lrat_check.specs.Checking.{HasJudged};
 ghost use Rattle.desk_io.specs.declared.Slot.TheVariants.{Proof};
 ghost use Rattle.dp2ll.specs.Reading.{BeginsSlot, KeepsSlot};
-ghost use Rattle.dp2ll.specs.Judging.{JudgesFile, IsJudging, JudgesLine, JudgesNext, JudgesText, JudgesEnd, JudgesPiece, JudgesPieces, FindsByFault};
+ghost use Rattle.dp2ll.specs.Judging.{JudgesFile, IsJudging, JudgesLine, JudgesNext, JudgesText, JudgesEnd, JudgesPiece, JudgesPieces, IsFresh, HasGoneOn, FindsByFault};
 
 use crate::ending::ProofStop;
 use crate::finding::{Finding, Flaw};
@@ -23,15 +23,16 @@ const MOST_TURNS: u64 = 1_099_511_627_777;
 
 /// Judges the proof in a file, line by line, up to the first fault, the first empty lemma that follows, or the end.
 ///
-/// Each line is judged before the next is read, and each piece before the next.
+/// Each line is judged before the next is read, and each piece before the next. The checker has the clauses in less room
+/// than the formula, which is dropped before the first line.
 pub(crate) fn judge_file<I: Inputs>(
     alloc: Global,
-    formula: &Formula,
+    formula: Formula,
     proof: &str,
     inputs: &mut I,
 ) -> Result<Finding, ProofStop>
     ensures begun { BeginsSlot Proof proof.now (I.told inputs.old) (I.told inputs.new) }
-    ensures judges { JudgesFile formula.now ((I.told inputs.old).held Proof proof.now)
+    ensures judges { JudgesFile formula ((I.told inputs.old).held Proof proof.now)
         ((I.told inputs.old).at Proof) ((I.told inputs.new).at Proof) result }
 {
     read_bytes_are_sound();
@@ -40,15 +41,10 @@ pub(crate) fn judge_file<I: Inputs>(
     if inputs.begin(Slot::Proof, proof).is_err() {
         return Err(ProofStop::ReadFault);
     }
-    let mut checker = Checker::make(alloc, formula)?;
+    let mut checker = Checker::make(alloc, &formula)?;
+    drop(formula);
     let mut buffer = zeros(alloc)?;
-    judge_pieces(
-        inputs,
-        &mut reader,
-        &mut checker,
-        buffer.as_mut_slice(),
-        formula,
-    )
+    judge_pieces(inputs, &mut reader, &mut checker, buffer.as_mut_slice())
 }
 
 /// Judges pieces until something is found. Each takes at least a byte, so the limit of bytes ends the loop.
@@ -57,13 +53,13 @@ fn judge_pieces<I: Inputs>(
     reader: &mut LineReader,
     checker: &mut Checker,
     buffer: &mut [u8],
-    formula: &Formula,
 ) -> Result<Finding, ProofStop>
     requires room { 0 < length buffer.old }
     requires piece { length buffer.old ≤ PIECE }
-    requires fresh { IsJudging formula.now reader.old checker.old [] [] }
+    requires fresh { IsFresh reader.old checker.old }
     ensures kept { KeepsSlot Proof (I.told inputs.old) (I.told inputs.new) }
-    ensures judges { JudgesPieces formula.now ((I.told inputs.old).at Proof) ((I.told inputs.new).at Proof) result }
+    ensures judges { (cnf : Cnf) → IsJudging cnf reader.old checker.old [] []
+        → JudgesPieces cnf ((I.told inputs.old).at Proof) ((I.told inputs.new).at Proof) result }
 {
     read_bytes_are_sound();
     read_bytes_are_few();

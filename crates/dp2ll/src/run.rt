@@ -1,5 +1,5 @@
 ghost use Rattle.std.specs.Prelude.{map, string_bytes};
-ghost use Rattle.crew.specs.Run.{AreOfOneCore};
+ghost use Rattle.solo_core.specs.First.{AreInRange};
 ghost use Rattle.dp2ll.specs.Answering.{KeepsComplaint};
 ghost use Rattle.dp2ll.specs.Serving.{Solves, ChecksProof, Serves, desk, ending_of, checked_ending};
 ghost use Rattle.dp2ll.specs.Headline.{run_of, Headline, Sentences};
@@ -106,7 +106,7 @@ fn solve<I: Inputs, O: Outputs>(
     inputs: &mut I,
     outputs: &mut O,
 ) -> Result<Verdict, Ending>
-    requires { AreOfOneCore settings.now }
+    requires { AreInRange settings.now }
     ensures solves { Solves file.now log.now settings.now (desk (I.told inputs.old) (O.told outputs.old))
         (desk (I.told inputs.new) (O.told outputs.new)) (ending_of result) }
     ensures complaint { KeepsComplaint (O.told outputs.old) (O.told outputs.new) }
@@ -129,7 +129,7 @@ fn check<I: Inputs, O: Outputs>(
 {
     law_checked_proof_refutes();
     let formula = read_formula(alloc, file, inputs)?;
-    let finding = judge_file(alloc, &formula, proof, inputs)?;
+    let finding = judge_file(alloc, formula, proof, inputs)?;
     say_finding(outputs, finding)?;
     Ok(finding)
 }

@@ -1,6 +1,7 @@
 //! Runs of the program over inputs and outputs in memory.
 
 use crate::run::run;
+use crate::words::law_small_command_lines;
 use desk_io::{Failed, Inputs, MemoryInputs, MemoryOutputs, NoGate, Port, Slot};
 use lit_base::List;
 use std::alloc::Global;
@@ -8,6 +9,8 @@ use std::process::Abort;
 use std::sync::Wait;
 use std::test::Fail;
 use std::thread::Threads;
+
+mod check;
 
 /// How many bytes a call reads or writes at most.
 const GRAINS: [usize; 4] = [1, 2, 3, 4096];
@@ -19,7 +22,7 @@ const PLAIN: [&str; 2] = ["solve", "f"];
 
 const LOGGED: [&str; 4] = ["solve", "f", "--log", "g"];
 
-const LIMITED: [&str; 6] = ["solve", "f", "--limit", "1", "--log", "g"];
+const LIMITED: [&str; 8] = ["solve", "f", "--limit", "1", "--cores", "1", "--log", "g"];
 
 /// A formula's file, the status of `solve` on it, and what stands on the ports; a log of None is not created.
 ///
@@ -644,7 +647,7 @@ static REFUSALS: [Refusal; 7] = [
 ];
 
 /// Words that are no command line.
-static FAULTY: [&[&str]; 30] = [
+static FAULTY: [&[&str]; 33] = [
     &[],
     &["solve"],
     &["solve", ""],
@@ -664,9 +667,12 @@ static FAULTY: [&[&str]; 30] = [
     &["solve", "f", "--limit", "1x"],
     &["solve", "f", "--limit", "1", "--limit", "1"],
     &["solve", "f", "--limit=1"],
-    &["solve", "f", "--cores", "2"],
+    &["solve", "f", "--cores", "17"],
     &["solve", "f", "--cores", "0"],
-    &["solve", "f", "--seed", "1"],
+    &["solve", "f", "--period", "100001"],
+    &["solve", "f", "--period", "0"],
+    &["solve", "f", "--share", "65"],
+    &["solve", "f", "--seed", "18446744073709551616"],
     &["solve", "f", "g"],
     &["Solve", "f"],
     &["check", "f"],
@@ -678,7 +684,11 @@ static FAULTY: [&[&str]; 30] = [
 ];
 
 /// Words that are the same command line as `solve f --log g`.
-static SAME: [&[&str]; 5] = [
+static SAME: [&[&str]; 7] = [
+    &[
+        "solve", "f", "--share", "0", "--period", "100000", "--cores", "16", "--log", "g",
+    ],
+    &["solve", "f", "--seed", "18446744073709551615", "--log", "g"],
     &["solve", "f", "--cores", "1", "--log", "g"],
     &["solve", "f", "--log", "g", "--limit", "1000000000"],
     &[
@@ -706,6 +716,11 @@ fn options_in_any_order(rt: HostRuntime) -> Result<(), Fail> {
         );
     }
     Ok(())
+}
+
+#[test]
+fn laws_can_be_called(_rt: HostRuntime) {
+    law_small_command_lines();
 }
 
 #[test]

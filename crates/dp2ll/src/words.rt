@@ -1,6 +1,7 @@
-ghost use Rattle.std.specs.Prelude.{◌≡◌, ◌≤◌, ◌&&◌, ◌||◌, map, string_bytes, bytes_eq, codes, option_map, IfSome, IfOk};
-ghost use Rattle.crew.specs.Run.{AreOfOneCore};
-ghost use Rattle.dp2ll.specs.Job.{job_of, solve_of, check_of, settings_of, is_number, number_of, number_or, number_under, is_file_word, is_option, are_options, values_under, once, IsInRange, ReadsWords};
+ghost use Rattle.std.specs.Prelude.{◌≡◌, ◌≤◌, ◌&&◌, ◌||◌, ◌∷◌, [], Some, None, map, string_bytes, bytes_eq, codes, option_map, IfSome, IfOk};
+ghost use Rattle.solo_core.specs.First.{AreInRange};
+ghost use Rattle.dp2ll.specs.declared.words.Job.TheVariants.{Solve, Check};
+ghost use Rattle.dp2ll.specs.Job.{job_of, solve_of, check_of, settings_of, is_number, number_of, number_or, number_under, settings_with, is_file_word, is_option, are_options, values_under, once, IsInRange, ReadsWords};
 
 use lit_base::{NoMemory, Text, is_digits};
 use solo_core::Settings;
@@ -47,8 +48,9 @@ impl From<NoMemory> for WordFault {
 }
 
 /// The job that the words after the program's name ask for: `check` and two file words, or `solve`, one file word, and then
-/// options in any order, each at most once: `--cores` 1, `--limit` from 1 to 1,000,000,000 (10,000,000 without it), and
-/// `--log` with a file word.
+/// options in any order, each at most once: `--cores` from 1 to 16 (4 without it), `--period` from 1 to 100,000 (300),
+/// `--share` from 0 to 64 (8), `--limit` from 1 to 1,000,000,000 (10,000,000), `--seed` from 0 to 2^64 - 1 (0), and `--log`
+/// with a file word.
 ///
 /// A file word is not empty and does not begin with `-`; a number is 1 to 20 digits.
 pub fn read_words(alloc: Global, words: &[String]) -> Result<Job, WordFault>
@@ -109,21 +111,24 @@ fn read_check(alloc: Global, arguments: &[String]) -> Result<Job, WordFault>
 /// The settings that options give, where their numbers are in their ranges.
 fn settings_of(options: &[String]) -> Option<Settings>
     ensures settings { result ≡ settings_of (map string_bytes options.now) }
-    ensures range { IfSome result AreOfOneCore }
+    ensures range { IfSome result AreInRange }
 {
-    let cores = number_under(options, "--cores", 1, 1, 1)?;
+    let cores = number_under(options, "--cores", 1, 16, 4)?;
+    let period = number_under(options, "--period", 1, 100_000, 300)?;
+    let share = number_under(options, "--share", 0, 64, 8)?;
     let limit = number_under(options, "--limit", 1, 1_000_000_000, 10_000_000)?;
+    let seed = number_under(options, "--seed", 0, u64::MAX, 0)?;
     Some(Settings {
-        cores,
-        period: 300,
-        share: 8,
-        limit,
-        seed: 0,
+        cores: cores as u32,
+        period: period as u32,
+        share: share as u32,
+        limit: limit as u32,
+        seed,
     })
 }
 
 /// The number under this name, from `low` to `high`, or `otherwise` where there is none.
-fn number_under(options: &[String], name: &str, low: u32, high: u32, otherwise: u32) -> Option<u32>
+fn number_under(options: &[String], name: &str, low: u64, high: u64, otherwise: u64) -> Option<u64>
     requires low { low ≤ otherwise }
     requires high { otherwise ≤ high }
     ensures number { result ≡ number_under name.now low high otherwise (map string_bytes options.now) }
@@ -136,14 +141,14 @@ fn number_under(options: &[String], name: &str, low: u32, high: u32, otherwise: 
 }
 
 /// The number of a text of 1 to 20 digits, where it is one from `low` to `high`.
-fn number_of(text: &str, low: u32, high: u32) -> Option<u32>
+fn number_of(text: &str, low: u64, high: u64) -> Option<u64>
     ensures number { result ≡ number_of low high text.now }
     ensures within { IfSome result (λ n. (low ≤ n) × (n ≤ high)) }
 {
     if !is_number(text) {
         return None;
     }
-    let Ok(number) = text.parse::<u32>() else {
+    let Ok(number) = text.parse::<u64>() else {
         return None;
     };
     if low <= number && number <= high {
@@ -178,7 +183,13 @@ fn are_options(words: &[String]) -> bool
 fn is_option(name: &str, value: &str) -> bool
     ensures { result ≡ is_option name.now value.now }
 {
-    (name == "--cores" || name == "--limit" || name == "--log") && is_file_word(value)
+    (name == "--cores"
+        || name == "--period"
+        || name == "--share"
+        || name == "--limit"
+        || name == "--seed"
+        || name == "--log")
+        && is_file_word(value)
 }
 
 /// The value that options give under this name, where there is one; None where there are several.
@@ -208,3 +219,16 @@ fn is_file_word(word: &str) -> bool
         [first, ..] => *first != b'-',
     }
 }
+
+/// Law: what small command lines ask for, and that others ask for nothing.
+pub(crate) fn law_small_command_lines()
+    ensures plain { job_of (codes "solve" ∷ codes "f" ∷ []) ≡ Some (Solve (codes "f") None (settings_with 4 300 8 10000000 0)) }
+    ensures options { job_of (codes "solve" ∷ codes "f" ∷ codes "--seed" ∷ codes "7" ∷ codes "--log" ∷ codes "g" ∷ codes "--limit" ∷ codes "030" ∷
+        codes "--share" ∷ codes "0" ∷ codes "--cores" ∷ codes "16" ∷ codes "--period" ∷ codes "5" ∷ []) ≡
+        Some (Solve (codes "f") (Some (codes "g")) (settings_with 16 5 0 30 7)) }
+    ensures twice { job_of (codes "solve" ∷ codes "f" ∷ codes "--log" ∷ codes "g" ∷ codes "--log" ∷ codes "h" ∷ []) ≡ None }
+    ensures valueless { job_of (codes "solve" ∷ codes "f" ∷ codes "--limit" ∷ []) ≡ None }
+    ensures unknown { job_of (codes "solve" ∷ codes "f" ∷ codes "--speed" ∷ codes "7" ∷ []) ≡ None }
+    ensures check { job_of (codes "check" ∷ codes "f" ∷ codes "p" ∷ []) ≡ Some (Check (codes "f") (codes "p")) }
+    ensures alone { job_of (codes "check" ∷ codes "f" ∷ []) ≡ None }
+{}
