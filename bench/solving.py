@@ -1,16 +1,17 @@
 #!/usr/bin/env python3
 """Measures the built program beside other solvers on formulas that this script makes from numbers.
 
-    bench/solving.py [--program PATH] [--runs N] [--seconds S] [--only WORD] [--out FILE.json] [--against FILE.json]
+    bench/solving.py [--program PATH] [--cores N] [--runs N] [--seconds S] [--only WORD]
+                     [--out FILE.json] [--against FILE.json]
 
 Families: uniform random three-literal formulas at the threshold of 4.26 clauses a variable, pigeonholes, coloured grids,
 parities along two chains, and the equivalence of two adders and of two multipliers. Each file has the verdict that is
-expected of it; a solver that gives another is reported, and the script then ends with 1. Solvers: dp2ll, and minisat
--no-pre and cadical where they are on the path. They run in turn, N times, with a limit of S seconds a file. For each file
-stand the verdict, the least processor seconds, the conflicts (of dp2ll by the lines of its log, in a run of its own that isn't
-timed), the conflicts a second and the peak memory (of which some 16 MB are this script's own); at the end the geometric
-means over the files that every solver answered. `--out` keeps all figures, and `--against` compares dp2ll's seconds and
-conflicts with those of an earlier run.
+expected of it; a solver that gives another is reported, and the script then ends with 1. Solvers: dp2ll, with one core or
+with so many that run in turn, and minisat -no-pre and cadical where they are on the path. The programs run in turn, N times,
+with a limit of S seconds a file. For each file stand the verdict, the least processor seconds, the conflicts (of dp2ll by the
+lines of its log, in a run of its own that isn't timed), the conflicts a second and the peak memory (of which some 16 MB are
+this script's own); at the end the geometric means over the files that every solver answered. `--out` keeps all figures, and
+`--against` compares dp2ll's seconds and conflicts with those of an earlier run.
 """
 import argparse
 import itertools
@@ -200,10 +201,10 @@ def measure(programs, path, log, runs, seconds):
     """The figures of each program on one file: least seconds of the runs, which go round all programs."""
     best = {}
     for _ in range(runs):
-        for program, words in programs:
+        for program, words, options in programs:
             if best.get(program, {}).get('verdict') == 'TIME':
                 continue
-            status, took, memory, text = timed(words + [path], seconds)
+            status, took, memory, text = timed(words + [path] + options, seconds)
             figures = best.setdefault(program, {'seconds': took, 'memory': memory})
             figures['seconds'] = min(figures['seconds'], took)
             figures['memory'] = max(figures['memory'], memory)
@@ -212,7 +213,8 @@ def measure(programs, path, log, runs, seconds):
                 figures['conflicts'] = conflicts_of(program, text, log)
     ours = best['dp2ll']
     if ours['verdict'] != 'TIME':
-        timed(dict(programs)['dp2ll'] + [path, '--log', log], seconds * 2)
+        _, words, options = programs[0]
+        timed(words + [path] + options + ['--log', log], seconds * 2)
         ours['conflicts'] = conflicts_of('dp2ll', '', log) if os.path.exists(log) else None
     return best
 
@@ -238,7 +240,7 @@ def report(name, expected, figures):
 def summary(kept, programs):
     answered = [rows for rows in kept.values() if all(row['verdict'] in ('SAT', 'UNSAT') for row in rows.values())]
     print('\ngeometric means over the %d files of %d that all answered' % (len(answered), len(kept)))
-    for program, _ in programs:
+    for program, _, _ in programs:
         rows = [each[program] for each in answered]
         rates = [row['conflicts'] / row['seconds'] for row in rows if row.get('conflicts')]
         print('%-16s %8.3f s, %.0f conflicts, %.0f a second, %d answered of all'
@@ -260,14 +262,15 @@ def compare(kept, path):
 def main():
     parser = argparse.ArgumentParser(description=__doc__, formatter_class=argparse.RawDescriptionHelpFormatter)
     parser.add_argument('--program', default=os.path.join(TOP, 'crates', 'dp2ll', 'out', 'dp2ll'))
+    parser.add_argument('--cores', type=int, default=1)
     parser.add_argument('--runs', type=int, default=3)
     parser.add_argument('--seconds', type=int, default=20)
     parser.add_argument('--only', default='')
     parser.add_argument('--out')
     parser.add_argument('--against')
     args = parser.parse_args()
-    programs = [('dp2ll', [args.program, 'solve'])]
-    programs += [(name, words) for name, words in (('minisat -no-pre', ['minisat', '-no-pre']), ('cadical', ['cadical']))
+    programs = [('dp2ll', [args.program, 'solve'], ['--cores', str(args.cores)])]
+    programs += [(name, words, []) for name, words in (('minisat -no-pre', ['minisat', '-no-pre']), ('cadical', ['cadical']))
                  if shutil.which(words[0])]
     kept, wrong = {}, []
     folder = tempfile.mkdtemp(prefix='solving')
