@@ -12,5 +12,6 @@ pub mod LogSize
 pub mod Texts
 pub mod Writings
 pub mod InTurn
+pub mod TraceRows
 pub mod LogSteps
 pub mod Turning

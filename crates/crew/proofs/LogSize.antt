@@ -36,7 +36,7 @@ conflicts_in (m ∷ later) = m.state.conflicts + conflicts_in later
 abbrev pub lemmas_left : List Member → ℕ
 lemmas_left members = length (joined (parts_of (sheets_of members)))
 
-left_by : (past : ℕ) (m : Member) → IsCounted past m → length (stretched m).state.lemmas + m.state.conflicts ≡ (stretched m).state.conflicts
+pub left_by : (past : ℕ) (m : Member) → IsCounted past m → length (stretched m).state.lemmas + m.state.conflicts ≡ (stretched m).state.conflicts
 left_by past m counted =
     let counts = conflicts_counted m.frame m.quota m.state in
     let none = ap length counted.begins.1 in omega (arith, counts.lemmas, none, counts.risen)

@@ -18,7 +18,7 @@ use Rattle.crew.specs.declared.logged.Logged.{Logged}
 use Rattle.crew.specs.Era.{mails_in, winning_core}
 use Rattle.crew.specs.Run.{members_at, mails_at, sheets_at, HasEra}
 use Rattle.crew.specs.Log.{stands, standing_parts, parts_before, parts_at, era_parts, joined, all_joined, numbering_at}
-use Rattle.crew.specs.Turns.{IsEra, era_text, logged_before, logged_at, WritesLog}
+use Rattle.crew.specs.Turns.{IsEra, era_text, logged_of, logged_before, logged_at, WritesLog}
 use Rattle.crew.proofs.EraLog.{counts_of, all_joined-push, numbering_at-push}
 use Rattle.crew.proofs.RunSound.{run_sound, length-era}
 use Rattle.crew.proofs.LogSize.{log_small, standing_short, sum_of_counts, lemmas_of_counts}
@@ -92,19 +92,27 @@ logged_count cnf settings past count log old parts is counted are =
     let standing = ap (λ ps. length (joined ps)) are in
     omega (arith, lemmas, counted, standing, more, sum)
 
+logged_made : (cnf : Cnf) (settings : Settings) (past count : ℕ) (log : Bool) (old : Logged) (parts : List (List Lemma)) (after : Numbering) → old ≡ logged_before cnf settings log past →
+    count ≡ length (joined parts) → parts ≡ era_parts cnf settings past → after ≡ numbering_at cnf settings (cond log (parts_at cnf settings past) []) →
+    (let l : Logged = record { numbers = after; lemmas = old.lemmas + count; trace = old.trace } in l) ≡ logged_at cnf settings log past
+logged_made cnf settings past count log old parts after is counted are numbers =
+    ap (λ n. let l : Logged = record { numbers = n; lemmas = old.lemmas + count; trace = old.trace } in l) numbers
+    ∙ ap (λ k. let l : Logged = record { numbers = numbering_at cnf settings (cond log (parts_at cnf settings past) []); lemmas = k; trace = old.trace } in l)
+    (logged_count cnf settings past count log old parts is counted are)
+    ∙ ap (λ (o : Logged). logged_of cnf settings log (parts_at cnf settings past) o.trace) is
+
 pub logged_wanted : (cnf : Cnf) (settings : Settings) (past count : ℕ) (log : Bool) (old : Logged) (parts : List (List Lemma)) (after : Numbering) → log ≡ true → old ≡ logged_before cnf settings log past →
     count ≡ length (joined parts) → parts ≡ era_parts cnf settings past → after ≡ numbering_at cnf settings (parts_at cnf settings past) →
-    (let l : Logged = record { numbers = after; lemmas = old.lemmas + count } in l) ≡ logged_at cnf settings log past
+    (let l : Logged = record { numbers = after; lemmas = old.lemmas + count; trace = old.trace } in l) ≡ logged_at cnf settings log past
 logged_wanted cnf settings past count log old parts after wanted is counted are numbers =
-    ap (λ n. let l : Logged = record { numbers = n; lemmas = old.lemmas + count } in l) (numbers ∙ ap (λ b. numbering_at cnf settings (cond b (parts_at cnf settings past) [])) (sym wanted))
-    ∙ ap (λ k. let l : Logged = record { numbers = numbering_at cnf settings (cond log (parts_at cnf settings past) []); lemmas = k } in l) (logged_count cnf settings past count log old parts is counted are)
+    logged_made cnf settings past count log old parts after is counted are (numbers ∙ ap (λ b. numbering_at cnf settings (cond b (parts_at cnf settings past) [])) (sym wanted))
 
 pub logged_unwanted : (cnf : Cnf) (settings : Settings) (past count : ℕ) (log : Bool) (old : Logged) (parts : List (List Lemma)) → log ≡ false → old ≡ logged_before cnf settings log past →
-    count ≡ length (joined parts) → parts ≡ era_parts cnf settings past → (let l : Logged = record { numbers = old.numbers; lemmas = old.lemmas + count } in l) ≡ logged_at cnf settings log past
+    count ≡ length (joined parts) → parts ≡ era_parts cnf settings past →
+    (let l : Logged = record { numbers = old.numbers; lemmas = old.lemmas + count; trace = old.trace } in l) ≡ logged_at cnf settings log past
 logged_unwanted cnf settings past count log old parts unwanted is counted are =
-    ap (λ n. let l : Logged = record { numbers = n; lemmas = old.lemmas + count } in l)
+    logged_made cnf settings past count log old parts old.numbers is counted are
     (ap (λ (l : Logged). l.numbers) is ∙ ap (λ b. numbering_at cnf settings (cond b (parts_before cnf settings past) [])) unwanted ∙ ap (λ b. numbering_at cnf settings (cond b (parts_at cnf settings past) [])) (sym unwanted))
-    ∙ ap (λ k. let l : Logged = record { numbers = numbering_at cnf settings (cond log (parts_at cnf settings past) []); lemmas = k } in l) (logged_count cnf settings past count log old parts is counted are)
 
 -- == what is written ==
 

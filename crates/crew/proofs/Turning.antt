@@ -12,9 +12,11 @@ use Rattle.solo_core.specs.declared.sheet.Settings.{Settings}
 use Rattle.log_merge.specs.declared.stop.Stop.{Stop}
 use Rattle.crew.specs.declared.logged.Logged.{Logged}
 use Rattle.crew.specs.declared.outcome.Outcome.{Outcome}
+use Rattle.crew.specs.declared.trace.TraceRow.{TraceRow}
 use Rattle.crew.specs.Era.{mails_in, winner_of, is_over}
 use Rattle.crew.specs.Run.{members_at, mails_at, sheets_at, HasEra}
 use Rattle.crew.specs.Log.{standing_parts, parts_before, parts_at, all_joined, log_text}
+use Rattle.crew.specs.Trace.{rows_of, trace_before, trace_at}
 use Rattle.crew.specs.Outcome.{outcome_from, outcome_at, outcome_of}
 use Rattle.crew.specs.Turns.{WritesLog, text_before, era_text, logged_of, logged_before, logged_at, without_outcome}
 use Rattle.crew.proofs.RunSound.{run_sound}
@@ -25,9 +27,14 @@ use Rattle.crew.proofs.InTurn.{mails_of_sheets}
 
 -- == over or not ==
 
--- whether the run is over, as the sheets tell it
-pub over_told : (cnf : Cnf) (settings : Settings) (past : ℕ) (sheets : List Sheet) (over : Bool) → sheets ≡ sheets_at cnf settings past → over ≡ is_over (mails_in sheets) → over ≡ is_over (mails_at cnf settings past)
-over_told cnf settings past sheets over are is = is ∙ ap (λ ss. is_over (mails_in ss)) are ∙ ap is_over (mails_of_sheets (members_at cnf settings past))
+-- the mails of the era, as its sheets have them
+pub mails_told : (cnf : Cnf) (settings : Settings) (past : ℕ) (sheets : List Sheet) → sheets ≡ sheets_at cnf settings past → mails_in sheets ≡ mails_at cnf settings past
+mails_told cnf settings past sheets are = ap mails_in are ∙ mails_of_sheets (members_at cnf settings past)
+
+-- whether the run is over, as they tell it
+pub over_told : (cnf : Cnf) (settings : Settings) (past : ℕ) (sheets : List Sheet) (over b : Bool) → sheets ≡ sheets_at cnf settings past → over ≡ is_over (mails_in sheets) → over ≡ b →
+    is_over (mails_at cnf settings past) ≡ b
+over_told cnf settings past sheets over b are is so = sym (is ∙ ap is_over (mails_told cnf settings past sheets are)) ∙ so
 
 nobody_by : (o : Option Mail) (b : Bool) → (is_some o || b) ≡ false → option_map (λ (mail : Mail). mail.core) o ≡ None
 nobody_by None b on = refl
@@ -39,8 +46,20 @@ went_on cnf settings past on =
     ap (λ winner. parts_before cnf settings past ++ standing_parts winner (sheets_at cnf settings past) ∷ []) (nobody_by (winner_of (mails_at cnf settings past)) _ on)
     ∙ ap (parts_before cnf settings) (sym (add-one past))
 
-pub logged_next : (cnf : Cnf) (settings : Settings) (log : Bool) (past : ℕ) → is_over (mails_at cnf settings past) ≡ false → logged_at cnf settings log past ≡ logged_before cnf settings log (past + 1)
-logged_next cnf settings log past on = ap (logged_of cnf settings log) (went_on cnf settings past on)
+-- the trace with the rows of the era
+pub trace_told : (cnf : Cnf) (settings : Settings) (log : Bool) (past : ℕ) (logged : Logged) (trace : List TraceRow) (sheets : List Sheet) → logged ≡ logged_at cnf settings log past →
+    sheets ≡ sheets_at cnf settings past → trace ≡ logged.trace ++ rows_of settings.period (mails_in sheets) → trace ≡ trace_at cnf settings past
+trace_told cnf settings log past logged trace sheets is are more =
+    more ∙ ap (λ (l : Logged). l.trace ++ rows_of settings.period (mails_in sheets)) is
+    ∙ ap (λ mails. trace_before cnf settings past ++ rows_of settings.period mails) (mails_told cnf settings past sheets are)
+
+-- where the run goes on, that is what the next era begins with
+pub logged_next : (cnf : Cnf) (settings : Settings) (log : Bool) (past : ℕ) (logged : Logged) (trace : List TraceRow) → is_over (mails_at cnf settings past) ≡ false →
+    logged ≡ logged_at cnf settings log past → trace ≡ trace_at cnf settings past → (let l : Logged = record logged { trace = trace } in l) ≡ logged_before cnf settings log (past + 1)
+logged_next cnf settings log past logged trace on is told =
+    ap (λ (l : Logged). let k : Logged = record l { trace = trace } in k) is
+    ∙ ap (logged_of cnf settings log (parts_at cnf settings past)) (told ∙ ap (trace_before cnf settings) (sym (add-one past)))
+    ∙ ap (λ eras. logged_of cnf settings log eras (trace_before cnf settings (past + 1))) (went_on cnf settings past on)
 
 -- the numbers of eras are small
 pub era_below : (cnf : Cnf) (settings : Settings) (past : ℕ) → AreInRange settings → HasEra cnf settings past → past < settings.limit
@@ -49,11 +68,13 @@ era_below cnf settings past are has = omega (arith, has_within cnf settings past
 -- == the outcome ==
 
 -- what the last era comes to
-pub ended_with : (cnf : Cnf) (settings : Settings) (log : Bool) (past : ℕ) (logged : Logged) (sheets : List Sheet) (outcome : Outcome) → is_over (mails_at cnf settings past) ≡ true →
-    logged ≡ logged_at cnf settings log past → sheets ≡ sheets_at cnf settings past → outcome ≡ outcome_from (past + 1) logged.lemmas sheets →
+pub ended_with : (cnf : Cnf) (settings : Settings) (log : Bool) (past : ℕ) (logged : Logged) (trace : List TraceRow) (sheets : List Sheet) (outcome : Outcome) → is_over (mails_at cnf settings past) ≡ true →
+    logged ≡ logged_at cnf settings log past → trace ≡ trace_at cnf settings past → sheets ≡ sheets_at cnf settings past → outcome ≡ outcome_from (past + 1) logged.lemmas trace sheets →
     Some outcome ≡ cond (is_over (mails_at cnf settings past)) (Some (outcome_at cnf settings past)) None
-ended_with cnf settings log past logged sheets outcome over is are made =
-    ap Some (made ∙ ap (λ (l : Logged). outcome_from (past + 1) l.lemmas sheets) is ∙ ap (outcome_from (past + 1) (length (all_joined (parts_at cnf settings past)))) are)
+ended_with cnf settings log past logged trace sheets outcome over is told are made =
+    ap Some (made ∙ ap (λ (l : Logged). outcome_from (past + 1) l.lemmas trace sheets) is
+    ∙ ap (λ rows. outcome_from (past + 1) (length (all_joined (parts_at cnf settings past))) rows sheets) told
+    ∙ ap (outcome_from (past + 1) (length (all_joined (parts_at cnf settings past))) (trace_at cnf settings past)) are)
     ∙ sym (cond-true (is_over (mails_at cnf settings past)) (Some (outcome_at cnf settings past)) None over)
 
 pub not_ended : (cnf : Cnf) (settings : Settings) (past : ℕ) → is_over (mails_at cnf settings past) ≡ false →

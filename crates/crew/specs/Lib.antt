@@ -1,6 +1,7 @@
 pub mod Era
 pub mod Run
 pub mod Log
+pub mod Trace
 pub mod Outcome
 pub mod Turns
 pub mod Laws

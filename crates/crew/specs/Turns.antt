@@ -14,9 +14,11 @@ use Rattle.log_merge.specs.declared.stop.Stop.TheVariants.{WriteFault}
 use Rattle.crew.specs.declared.outcome.Outcome.{Outcome}
 use Rattle.crew.specs.declared.searcher.Searcher.{Searcher}
 use Rattle.crew.specs.declared.logged.Logged.{Logged}
+use Rattle.crew.specs.declared.trace.TraceRow.{TraceRow}
 use Rattle.crew.specs.Era.{Member}
 use Rattle.crew.specs.Run.{members_at, HasEra}
 use Rattle.crew.specs.Log.{parts_before, parts_at, era_parts, joined, all_joined, numbering_at}
+use Rattle.crew.specs.Trace.{trace_before}
 
 -- == what is written ==
 
@@ -39,16 +41,17 @@ text_before cnf settings past = part_text (numbering_at cnf settings (parts_befo
 abbrev pub era_text : Cnf → Settings → ℕ → List ℕ
 era_text cnf settings past = part_text (numbering_at cnf settings (parts_at cnf settings past)) (joined (era_parts cnf settings past))
 
--- the log of these parts: their numbers, which are kept only where the log is wanted, and how many lemmas there are
-abbrev pub logged_of : Cnf → Settings → Bool → List (List (List Lemma)) → Logged
-logged_of cnf settings log eras = record { numbers = numbering_at cnf settings (if log then eras else []); lemmas = length (all_joined eras) }
+-- the log of these parts, beside this trace: their numbers, which are kept only where the log is wanted, and how many lemmas there are
+abbrev pub logged_of : Cnf → Settings → Bool → List (List (List Lemma)) → List TraceRow → Logged
+logged_of cnf settings log eras trace =
+    record { numbers = numbering_at cnf settings (if log then eras else []); lemmas = length (all_joined eras); trace = trace }
 
--- the log when so many eras are past, and with what stands of the next one
+-- the log and the trace when so many eras are past, and the log with what stands of the next one
 abbrev pub logged_before : Cnf → Settings → Bool → ℕ → Logged
-logged_before cnf settings log past = logged_of cnf settings log (parts_before cnf settings past)
+logged_before cnf settings log past = logged_of cnf settings log (parts_before cnf settings past) (trace_before cnf settings past)
 
 abbrev pub logged_at : Cnf → Settings → Bool → ℕ → Logged
-logged_at cnf settings log past = logged_of cnf settings log (parts_at cnf settings past)
+logged_at cnf settings log past = logged_of cnf settings log (parts_at cnf settings past) (trace_before cnf settings past)
 
 -- how an era ended, without what it came to
 abbrev pub without_answer : Result (Option Outcome) Stop → Result (Unit {0}) Stop

@@ -1,6 +1,6 @@
 //! An era of the cores.
 ghost use Rattle.std.specs.Prelude.{◌≡◌, ◌+◌, ◌<◌, true, false, map, All, Some, None, IfOk, OnOk, if◌then◌else◌};
-ghost use Rattle.crew.specs.Era.{mails_of, is_over};
+ghost use Rattle.crew.specs.Era.{is_over, largest_volume};
 ghost use Rattle.crew.specs.Run.{members_at, mails_at, sheets_at};
 ghost use Rattle.crew.specs.Outcome.{outcome_at};
 ghost use Rattle.crew.specs.Turns.{IsEra, AreEach, MayWork, HasWorked, HaveWorked, WritesLog, era_text, begun, at_rest, logged_before, logged_at, without_answer};
@@ -9,11 +9,13 @@ use crate::logged::{Logged, log_era};
 use crate::outcome::{Outcome, outcome_from};
 use crate::searcher::{Searcher, import_one, sheet_one, stretch_one};
 use crate::sheets::{is_over, largest_volume, mails_in};
+use crate::trace::add_rows;
 use desk_io::Outputs;
-use lit_base::{Formula, NoMemory};
+use lit_base::{Formula, List, NoMemory};
 use log_merge::Stop;
 use solo_core::{Settings, Sheet};
 use std::alloc::Global;
+use std::mem;
 
 /// Makes the stretch of each core, one after the other. A core to which memory is refused is broken.
 fn stretch_all(searchers: &mut [Searcher])
@@ -58,11 +60,12 @@ fn take_sheets(
     Ok(sheets)
 }
 
-/// Brings all cores to the next era.
+/// Brings all cores to the next era. `largest` is how much the fullest of them holds.
 fn import_all(
     alloc: Global,
     searchers: &mut [Searcher],
     sheets: Vec<Sheet>,
+    largest: u64,
     formula: &Formula,
     settings: &Settings,
     past: u32,
@@ -71,10 +74,10 @@ fn import_all(
     requires goes_on { is_over (mails_at formula.now settings.now past) ≡ false }
     requires rest { searchers.old ≡ map at_rest (members_at formula.now settings.now past) }
     requires sheets { sheets.items ≡ sheets_at formula.now settings.now past }
+    requires largest { largest ≡ largest_volume (mails_at formula.now settings.now past) }
     ensures { OnOk result (searchers.new ≡ map begun (members_at formula.now settings.now (past + 1))) }
 {
     let mut mails = mails_in(alloc, sheets)?;
-    let largest = largest_volume(mails.as_slice());
     for i in 0..searchers.len() {
         import_one(
             &mut searchers[i],
@@ -89,8 +92,8 @@ fn import_all(
     Ok(())
 }
 
-/// Ends an era in which each core has made its stretch: its part of the log is written, and either the run is over and has
-/// this outcome, or the cores are brought to the next era.
+/// Ends an era in which each core has made its stretch: its part of the log is written, its rows are added to the trace, and
+/// either the run is over and has this outcome, or the cores are brought to the next era.
 pub(crate) fn end_era<O: Outputs>(
     alloc: Global,
     searchers: &mut [Searcher],
@@ -120,9 +123,19 @@ pub(crate) fn end_era<O: Outputs>(
         past,
         outputs,
     )?;
-    if is_over(sheets.as_slice()) {
-        return Ok(Some(outcome_from(past + 1, logged.lemmas, sheets)));
+    let over = is_over(sheets.as_slice());
+    let largest = largest_volume(sheets.as_slice());
+    add_rows(
+        &mut logged.trace,
+        sheets.as_slice(),
+        settings.period,
+        over,
+        largest,
+    )?;
+    if over {
+        let trace = mem::replace(&mut logged.trace, List::new(alloc));
+        return Ok(Some(outcome_from(past + 1, logged.lemmas, trace, sheets)));
     }
-    import_all(alloc, searchers, sheets, formula, settings, past)?;
+    import_all(alloc, searchers, sheets, largest, formula, settings, past)?;
     Ok(None)
 }

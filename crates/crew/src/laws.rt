@@ -1,7 +1,8 @@
 //! What makes the answer of a run right: laws of the definitions, as functions that do nothing and whose
 //! contracts state them.
-ghost use Rattle.std.specs.Prelude.{◌≡◌, ◌<◌, ◌≤◌, ℕ, ◌+◌, ◌↔◌, Bool, true, false, IsOk, IsSome, IsNone, List, length, Some, option_map, slice_get};
+ghost use Rattle.std.specs.Prelude.{◌≡◌, ◌<◌, ◌≤◌, ℕ, ◌+◌, ◌*◌, ◌↔◌, Bool, true, false, IsOk, IsSome, IsNone, List, length, Some, option_map, slice_get};
 ghost use Rattle.std.specs.List.{AllByRecursion};
+ghost use Rattle.std.specs.Option.{IsSomeAnd};
 ghost use Rattle.lit_base.specs.Cnf.{Cnf, IsFormula};
 ghost use Rattle.lit_base.specs.Text.{lines_text};
 ghost use Rattle.lit_base.specs.Truth.{Satisfies};
@@ -14,10 +15,11 @@ ghost use Rattle.solo_core.specs.declared.sheet.End.TheVariants as end;
 ghost use Rattle.solo_core.specs.declared.sheet.Settings.{Settings};
 ghost use Rattle.log_merge.specs.Numbering.{number_of};
 ghost use Rattle.crew.specs.declared.outcome.Verdict.TheVariants.{Sat, Unsat, Unknown};
-ghost use Rattle.crew.specs.Era.{is_answer, is_over};
-ghost use Rattle.crew.specs.Run.{mails_at, HasEra, last_era, last_ends};
+ghost use Rattle.crew.specs.Era.{Member, is_answer, is_over};
+ghost use Rattle.crew.specs.Run.{members_at, mails_at, HasEra, last_era, last_ends};
 ghost use Rattle.crew.specs.Log.{log_of, numbering_of_run, log_lines, log_text};
 ghost use Rattle.crew.specs.Outcome.{verdict_at, outcome_of};
+ghost use Rattle.crew.specs.Laws.{row_in_trace, Tells};
 
 /// The last era is one of the run and ends it, and no other era does. There are no more eras than
 /// conflicts that a core may have.
@@ -82,6 +84,20 @@ pub fn law_winner_is_first()
     ensures lowest { (cnf : Cnf) (settings : Settings) (w i : ℕ) (e : End) → AreInRange settings →
         (outcome_of cnf settings).winner ≡ Some w → i < w →
         slice_get (last_ends cnf settings) i ≡ Some e → is_answer e ≡ false }
+{}
+
+/// The trace has a row for each core in each era: era by era, and in each era by the cores' numbers. A row tells what
+/// the core did in that era, and how many conflicts it may have in the next one; in the last era it may have none.
+pub fn law_trace_tells_the_run()
+    ensures rows { (cnf : Cnf) (settings : Settings) → AreInRange settings →
+        length (outcome_of cnf settings).trace ≡ (outcome_of cnf settings).eras * settings.cores }
+    ensures stretch { (cnf : Cnf) (settings : Settings) (past i : ℕ) (m : Member) → AreInRange settings → HasEra cnf settings past →
+        slice_get (members_at cnf settings past) i ≡ Some m → IsSomeAnd (row_in_trace cnf settings past i) (Tells past i m) }
+    ensures next { (cnf : Cnf) (settings : Settings) (past i : ℕ) (m : Member) → AreInRange settings → HasEra cnf settings (past + 1) →
+        slice_get (members_at cnf settings (past + 1)) i ≡ Some m →
+        IsSomeAnd (row_in_trace cnf settings past i) (λ row. (row.next ≡ m.quota) × (1 ≤ row.next)) }
+    ensures last { (cnf : Cnf) (settings : Settings) (i : ℕ) → AreInRange settings → i < settings.cores →
+        IsSomeAnd (row_in_trace cnf settings (last_era cnf settings) i) (λ row. row.next ≡ 0) }
 {}
 
 /// No core ends with Sat where another ends with Unsat.

@@ -1,20 +1,22 @@
 //! The ways to run the cores of a portfolio, and the run that all of them give.
 //!
-//! `specs/` has the run as definitions, for any number of cores: eras, the last of them, the outcome and
-//! the log. `run_turns` runs them in turn on the caller's thread. What makes the answer of a run right stands
+//! `specs/` has the run as definitions, for any number of cores: eras, the last of them, the outcome with its
+//! trace, and the log. `run_turns` runs them in turn on the caller's thread. What makes the answer of a run right stands
 //! in laws: functions without parameters, which do nothing and whose contracts state theorems.
 #![tactic(auto)]
 
 pub use examples::{
     law_square_is_given_up_at_the_limit, law_square_is_refuted, law_two_cores_go_on,
-    law_two_cores_in_turn,
+    law_two_cores_in_turn, law_two_cores_share_lemmas,
 };
 pub use laws::{
     law_ends_agree, law_log_follows, law_model_satisfies_formula, law_run_ends,
-    law_unknown_where_all_are_spent, law_unsat_is_refuted, law_winner_is_first,
+    law_trace_tells_the_run, law_unknown_where_all_are_spent, law_unsat_is_refuted,
+    law_winner_is_first,
 };
 pub use log_merge::Stop;
 pub use outcome::{Outcome, Verdict};
+pub use trace::TraceRow;
 pub use turns::run_turns;
 
 mod era;
@@ -26,4 +28,5 @@ mod searcher;
 mod sheets;
 #[cfg(test)]
 mod tests;
+mod trace;
 mod turns;

@@ -8,18 +8,20 @@ ghost use Rattle.crew.specs.Log.{stands, standing_parts, joined};
 ghost use Rattle.crew.specs.Turns.{IsEra, WritesLog, era_text, logged_before, logged_at};
 
 use crate::sheets::{standing_part, winner_in};
+use crate::trace::TraceRow;
 use desk_io::Outputs;
-use lit_base::{Formula, NoMemory};
+use lit_base::{Formula, List, NoMemory};
 use log_merge::{Numbers, Stop, write_part};
 use solo_core::{Settings, Sheet};
 use std::alloc::Global;
 
-/// What stands in the log so far: the numbers of its lemmas, which are kept only where the log is wanted, and how many lemmas
-/// there are.
+/// What is kept of the eras past: of the log the numbers of its lemmas, where it is wanted, and how many lemmas there are; and
+/// the rows of the trace.
 #[derive(Drop)]
 pub(crate) struct Logged {
     pub(crate) numbers: Numbers,
     pub(crate) lemmas: u64,
+    pub(crate) trace: List<TraceRow>,
 }
 
 /// Adds to the log what stands of an era, from its sheets, and writes it where the log is wanted.

@@ -2,7 +2,8 @@ ghost use Rattle.std.specs.Prelude.{◌≡◌};
 ghost use Rattle.crew.specs.Outcome.{verdict_at, outcome_from};
 
 use crate::sheets::winning_sheet;
-use lit_base::Model;
+use crate::trace::TraceRow;
+use lit_base::{List, Model};
 use solo_core::{End, Sheet};
 
 /// What a run says of its formula.
@@ -20,7 +21,7 @@ pub enum Verdict {
 ///
 /// `eras` is the number of its eras, from 1. `winner` is the number of the core whose answer the verdict
 /// is, None at `Unknown`. `model` is there exactly where the verdict is `Sat`. `lemmas` is the number of
-/// lines of the log.
+/// lines of the log. `trace` has a row for each core and era: era by era, and in each era by the cores' numbers.
 #[derive(Debug, Drop)]
 pub struct Outcome {
     pub verdict: Verdict,
@@ -28,11 +29,17 @@ pub struct Outcome {
     pub winner: Option<u32>,
     pub model: Option<Model>,
     pub lemmas: u64,
+    pub trace: List<TraceRow>,
 }
 
-/// The outcome of a run of so many eras, with so many lemmas in its log, whose last era left these sheets.
-pub(crate) fn outcome_from(eras: u32, lemmas: u64, sheets: Vec<Sheet>) -> Outcome
-    ensures { result ≡ outcome_from eras lemmas sheets.items }
+/// The outcome of a run of so many eras, with so many lemmas in its log and this trace, whose last era left these sheets.
+pub(crate) fn outcome_from(
+    eras: u32,
+    lemmas: u64,
+    trace: List<TraceRow>,
+    sheets: Vec<Sheet>,
+) -> Outcome
+    ensures { result ≡ outcome_from eras lemmas trace sheets.items }
 {
     match winning_sheet(sheets) {
         Some(sheet) => Outcome {
@@ -41,6 +48,7 @@ pub(crate) fn outcome_from(eras: u32, lemmas: u64, sheets: Vec<Sheet>) -> Outcom
             winner: Some(sheet.mail.core),
             model: sheet.model,
             lemmas,
+            trace,
         },
         None => Outcome {
             verdict: Verdict::Unknown,
@@ -48,6 +56,7 @@ pub(crate) fn outcome_from(eras: u32, lemmas: u64, sheets: Vec<Sheet>) -> Outcom
             winner: None,
             model: None,
             lemmas,
+            trace,
         },
     }
 }

@@ -73,12 +73,12 @@ pub(crate) fn is_over(sheets: &[Sheet]) -> bool
 }
 
 /// How much the fullest core holds.
-pub(crate) fn largest_volume(mails: &[Mail]) -> u64
-    ensures { result ≡ largest_volume mails.now }
+pub(crate) fn largest_volume(sheets: &[Sheet]) -> u64
+    ensures { result ≡ largest_volume (mails_in sheets.now) }
 {
     let mut largest = 0;
-    for mail in mails {
-        largest = largest.max(mail.volume);
+    for sheet in sheets {
+        largest = largest.max(sheet.mail.volume);
     }
     largest
 }

@@ -2,9 +2,10 @@ ghost use Rattle.std.specs.Prelude.{◌≡◌, ◌≤◌};
 ghost use Rattle.solo_core.specs.First.{AreInRange};
 
 use crate::{
-    Outcome, Stop, Verdict, law_ends_agree, law_log_follows, law_model_satisfies_formula,
-    law_run_ends, law_square_is_given_up_at_the_limit, law_square_is_refuted, law_two_cores_go_on,
-    law_two_cores_in_turn, law_unknown_where_all_are_spent, law_unsat_is_refuted,
+    Outcome, Stop, TraceRow, Verdict, law_ends_agree, law_log_follows, law_model_satisfies_formula,
+    law_run_ends, law_square_is_given_up_at_the_limit, law_square_is_refuted,
+    law_trace_tells_the_run, law_two_cores_go_on, law_two_cores_in_turn,
+    law_two_cores_share_lemmas, law_unknown_where_all_are_spent, law_unsat_is_refuted,
     law_winner_is_first, run_turns,
 };
 use desk_io::{MemoryOutputs, Port};
@@ -158,6 +159,42 @@ const OTHERS: &[Row] = &[
     },
 ];
 
+/// What two cores do that refute it in two eras.
+const TWO_ERAS: &[TraceRow] = &[
+    TraceRow {
+        period: 1,
+        core: 0,
+        conflicts: 1,
+        volume: 1,
+        posted: 1,
+        next: 1,
+    },
+    TraceRow {
+        period: 1,
+        core: 1,
+        conflicts: 1,
+        volume: 1,
+        posted: 1,
+        next: 1,
+    },
+    TraceRow {
+        period: 2,
+        core: 0,
+        conflicts: 1,
+        volume: 2,
+        posted: 0,
+        next: 0,
+    },
+    TraceRow {
+        period: 2,
+        core: 1,
+        conflicts: 1,
+        volume: 2,
+        posted: 0,
+        next: 0,
+    },
+];
+
 /// Runs one core on each row and compares what it leaves.
 fn compare(rt: &impl Abort, alloc: Global, rows: &[Row]) -> Result<(), Fail> {
     for row in rows.iter() {
@@ -228,6 +265,7 @@ fn two_cores_run_two_eras(rt: HostRuntime) -> Result<(), Fail> {
     assert_eq!(rt; outcome.winner, Some(0));
     assert_eq!(rt; outcome.lemmas, 3);
     assert!(rt; outcome.model.is_none());
+    assert_eq!(rt; outcome.trace.as_slice(), TWO_ERAS);
     assert_eq!(rt;
         outputs.kept(Port::Log),
         b"5 1 0 1 2 0\n6 -1 0 3 4 0\n7 0 5 6 0\n".as_slice()
@@ -262,8 +300,10 @@ fn laws_can_be_called(_rt: HostRuntime) {
     law_unknown_where_all_are_spent();
     law_winner_is_first();
     law_ends_agree();
+    law_trace_tells_the_run();
     law_square_is_refuted();
     law_square_is_given_up_at_the_limit();
     law_two_cores_in_turn();
     law_two_cores_go_on();
+    law_two_cores_share_lemmas();
 }

@@ -11,7 +11,7 @@ use crate::logged::Logged;
 use crate::outcome::Outcome;
 use crate::searcher::Searcher;
 use desk_io::Outputs;
-use lit_base::{Formula, NoMemory};
+use lit_base::{Formula, List, NoMemory};
 use log_merge::{Numbers, Stop};
 use solo_core::{Core, Settings};
 use std::alloc::Global;
@@ -60,6 +60,7 @@ fn eras_in_turn<O: Outputs>(
     let mut logged = Logged {
         numbers: Numbers::new(alloc, formula.len() as u64, settings.cores),
         lemmas: 0,
+        trace: List::new(alloc),
     };
     for past in 0..settings.limit {
         stretch_era(searchers, formula, settings, past);

@@ -1,34 +1,64 @@
-use Rattle.std.proofs.Common.{◌∙◌, sym, arith}
+use Rattle.std.proofs.Common.{true, false, ◌∙◌, ap, arith}
 use Rattle.std.proofs.lemmas.Bool.{both_ways}
-use Rattle.crew.specs.Era.{is_over}
+use Rattle.crew.specs.Era.{is_over, largest_volume}
 use Rattle.crew.specs.Run.{mails_at}
-use Rattle.crew.proofs.Turning.{over_told, logged_next, era_below, ended_with, not_ended}
+use Rattle.crew.proofs.LogSize.{volumes_fit}
+use Rattle.crew.proofs.TraceRows.{posts_fit}
+use Rattle.crew.proofs.Turning.{mails_told, over_told, trace_told, logged_next, era_below, ended_with, not_ended}
 use Rattle.crew.proofs.era.end_era.Goals as goal
 
 pub overflow_add-past : goal.overflow_add-past
 overflow_add-past g c = omega (arith, era_below c.args.formula.now c.args.settings.now c.args.past c.requires.era.range c.requires.era.has, c.requires.era.range.few_limit)
 
--- the run is over, as the sheets tell
-pub returns-then-is_over-clause-outcome : goal.returns-then-is_over-clause-outcome
-returns-then-is_over-clause-outcome g c =
-    let told = over_told c.args.formula.now c.args.settings.now c.args.past c.as_slice-2.result.now c.is_over.result (c.as_slice-2.ensures.value ∙ c.in_ok-sheets.ensures.sheets) c.is_over.ensures in
-    ended_with c.args.formula.now c.args.settings.now c.args.log c.args.past c.log_era.new.logged c.in_ok-sheets.sheets.items c.outcome_from.result (sym told ∙ c.if-is_over.true)
-    c.in_ok-log_era.ensures.logged c.in_ok-sheets.ensures.sheets c.outcome_from.ensures
+-- the rows fit
+pub add_rows-requires-clause-fits : goal.add_rows-requires-clause-fits
+add_rows-requires-clause-fits g c =
+    let told = mails_told c.args.formula.now c.args.settings.now c.args.past c.as_slice-3.result.now (c.as_slice-3.ensures.value ∙ c.in_ok-sheets.ensures.sheets) in
+    omega (arith, c.largest_volume-largest.ensures, ap largest_volume told, volumes_fit c.args.formula.now c.args.settings.now c.args.past c.requires.era.range c.requires.era.has)
 
-pub returns-then-is_over-clause-next : goal.returns-then-is_over-clause-next
-returns-then-is_over-clause-next g c on =
-    let told = over_told c.args.formula.now c.args.settings.now c.args.past c.as_slice-2.result.now c.is_over.result (c.as_slice-2.ensures.value ∙ c.in_ok-sheets.ensures.sheets) c.is_over.ensures in
-    absurd (both_ways (is_over (mails_at c.args.formula.now c.args.settings.now c.args.past)) on (sym told ∙ c.if-is_over.true))
+pub add_rows-requires-clause-few : goal.add_rows-requires-clause-few
+add_rows-requires-clause-few g c =
+    posts_fit c.args.formula.now c.args.settings.now c.args.past c.as_slice-4.result.now c.requires.era.range c.requires.era.has (c.as_slice-4.ensures.value ∙ c.in_ok-sheets.ensures.sheets)
+
+-- the run is over, as the sheets tell
+pub returns-then-over-clause-outcome : goal.returns-then-over-clause-outcome
+returns-then-over-clause-outcome g c =
+    let cnf = c.args.formula.now in
+    let settings = c.args.settings.now in
+    let past = c.args.past in
+    let over = over_told cnf settings past c.as_slice-2.result.now c.is_over-over.result true (c.as_slice-2.ensures.value ∙ c.in_ok-sheets.ensures.sheets) c.is_over-over.ensures c.if-over.true in
+    let trace = trace_told cnf settings c.args.log past c.log_era.new.logged c.add_rows.new.trace c.as_slice-4.result.now c.in_ok-log_era.ensures.logged
+    (c.as_slice-4.ensures.value ∙ c.in_ok-sheets.ensures.sheets) c.in_ok-add_rows.ensures in
+    ended_with cnf settings c.args.log past c.log_era.new.logged c.replace-trace.result c.in_ok-sheets.sheets.items c.outcome_from.result over c.in_ok-log_era.ensures.logged
+    (c.replace-trace.ensures.value ∙ trace) c.in_ok-sheets.ensures.sheets c.outcome_from.ensures
+
+pub returns-then-over-clause-next : goal.returns-then-over-clause-next
+returns-then-over-clause-next g c on =
+    absurd (both_ways (is_over (mails_at c.args.formula.now c.args.settings.now c.args.past)) on
+    (over_told c.args.formula.now c.args.settings.now c.args.past c.as_slice-2.result.now c.is_over-over.result true (c.as_slice-2.ensures.value ∙ c.in_ok-sheets.ensures.sheets) c.is_over-over.ensures c.if-over.true))
+
+pub returns-then-over-clause-logged : goal.returns-then-over-clause-logged
+returns-then-over-clause-logged g c on =
+    absurd (both_ways (is_over (mails_at c.args.formula.now c.args.settings.now c.args.past)) on
+    (over_told c.args.formula.now c.args.settings.now c.args.past c.as_slice-2.result.now c.is_over-over.result true (c.as_slice-2.ensures.value ∙ c.in_ok-sheets.ensures.sheets) c.is_over-over.ensures c.if-over.true))
 
 -- or it goes on
 pub import_all-requires-clause-goes_on : goal.import_all-requires-clause-goes_on
 import_all-requires-clause-goes_on g c =
-    sym (over_told c.args.formula.now c.args.settings.now c.args.past c.as_slice-2.result.now c.is_over.result (c.as_slice-2.ensures.value ∙ c.in_ok-sheets.ensures.sheets) c.is_over.ensures) ∙ c.if-is_over.false
+    over_told c.args.formula.now c.args.settings.now c.args.past c.as_slice-2.result.now c.is_over-over.result false (c.as_slice-2.ensures.value ∙ c.in_ok-sheets.ensures.sheets) c.is_over-over.ensures c.if-over.false
+
+pub import_all-requires-clause-largest : goal.import_all-requires-clause-largest
+import_all-requires-clause-largest g c =
+    c.largest_volume-largest.ensures
+    ∙ ap largest_volume (mails_told c.args.formula.now c.args.settings.now c.args.past c.as_slice-3.result.now (c.as_slice-3.ensures.value ∙ c.in_ok-sheets.ensures.sheets))
 
 pub returns-clause-outcome : goal.returns-clause-outcome
 returns-clause-outcome g c =
-    let told = over_told c.args.formula.now c.args.settings.now c.args.past c.as_slice-2.result.now c.is_over.result (c.as_slice-2.ensures.value ∙ c.in_ok-sheets.ensures.sheets) c.is_over.ensures in
-    not_ended c.args.formula.now c.args.settings.now c.args.past (sym told ∙ c.if-is_over.false)
+    not_ended c.args.formula.now c.args.settings.now c.args.past
+    (over_told c.args.formula.now c.args.settings.now c.args.past c.as_slice-2.result.now c.is_over-over.result false (c.as_slice-2.ensures.value ∙ c.in_ok-sheets.ensures.sheets) c.is_over-over.ensures c.if-over.false)
 
 pub returns-clause-logged : goal.returns-clause-logged
-returns-clause-logged g c on = c.in_ok-log_era.ensures.logged ∙ logged_next c.args.formula.now c.args.settings.now c.args.log c.args.past on
+returns-clause-logged g c on =
+    logged_next c.args.formula.now c.args.settings.now c.args.log c.args.past c.log_era.new.logged c.add_rows.new.trace on c.in_ok-log_era.ensures.logged
+    (trace_told c.args.formula.now c.args.settings.now c.args.log c.args.past c.log_era.new.logged c.add_rows.new.trace c.as_slice-4.result.now c.in_ok-log_era.ensures.logged
+    (c.as_slice-4.ensures.value ∙ c.in_ok-sheets.ensures.sheets) c.in_ok-add_rows.ensures)

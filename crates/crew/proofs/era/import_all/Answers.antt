@@ -2,7 +2,7 @@ use Rattle.std.proofs.Common.{◌+◌, length, map, get_or, refl, ap, sym, ◌�
 use Rattle.std.specs.Prelude.{Some, slice_get}
 use Rattle.std.proofs.lemmas.List.{length-set, length-map}
 use Rattle.std.proofs.lemmas.Option.{same_Some}
-use Rattle.crew.specs.Era.{mails_in, largest_volume}
+use Rattle.crew.specs.Era.{mails_in}
 use Rattle.crew.specs.Run.{members_at}
 use Rattle.crew.specs.Turns.{at_rest, begun}
 use Rattle.crew.proofs.RunSound.{length-members}
@@ -31,11 +31,6 @@ import_one-requires-clause-rest c m at =
     same_Some (get_or c.loop-i.searchers i d) (at_rest m)
     (sym (left_at c.loop-i.searchers c.args.searchers.now i d (omega (arith, c.loop-i.invariant.same_length)) c.loop-i.invariant.left)
     ∙ ap (λ searchers. slice_get searchers i) c.requires.rest ∙ mapped_at at_rest (members_at c.args.formula.now c.args.settings.now c.args.past) i m at)
-
-pub import_one-requires-clause-largest : goal.import_one-requires-clause-largest
-import_one-requires-clause-largest c =
-    c.largest_volume-largest.ensures
-    ∙ ap largest_volume (c.as_slice.ensures.value ∙ c.in_ok-mails.ensures ∙ ap mails_in c.requires.sheets ∙ mails_of_sheets (members_at c.args.formula.now c.args.settings.now c.args.past))
 
 -- one more core is in the next era
 pub loop-i-preserved : goal.loop-i-preserved
