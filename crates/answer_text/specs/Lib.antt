@@ -1,0 +1,5 @@
+pub mod Trace
+pub mod Answer
+pub mod Writing
+pub mod Gathering
+pub mod Laws
