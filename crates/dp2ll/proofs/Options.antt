@@ -1,11 +1,11 @@
 -- Options and their numbers.
-use Rattle.std.proofs.Common.{◌≡◌, ℕ, ◌≤◌, ◌<◌, ◌&&◌, nat_le, cond, Bool, true, false, List, [], ◌∷◌, length, refl, ◌++◌, ◌==◌, map, arith, rules, Option, Some, None, Err}
+use Rattle.std.proofs.Common.{◌≡◌, ℕ, ◌≤◌, ◌<◌, ◌&&◌, nat_le, cond, Bool, true, false, List, [], ◌∷◌, length, refl, ◌++◌, map, arith, rules, Option, Some, None, Err}
 use Rattle.std.proofs.lemmas.Grind.{common_steps}
 use Rattle.std.specs.List.{list_all}
 use Rattle.std.specs.Char.{is_ascii_digit}
 use Rattle.std.specs.Str.Parse.{digits_value, ParsesUnsigned}
 use Rattle.std.proofs.lemmas.Str.Parse.{IsNumeralModel, numerals_by_value, parse_digits}
-use Rattle.dp2ll.specs.Job.{is_number, number_of, are_options, values_under, once}
+use Rattle.dp2ll.specs.Job.{is_number, number_of, values_under, once}
 
 -- a value that may be there as a list
 abbrev pub listed : Option (List ℕ) → List (List ℕ)
@@ -35,13 +35,7 @@ too_large text fault low high is small read =
     by false fails = refl
     by true holds = absurd (parse_digits own 64 text (Err fault) read (digits_of text is).all ((digits_of text is).some, grind (arith, common_steps, holds, small)))
 
--- fewer than two words are options where there are none
-pub none_left : {T : Type 0} (f : T → List ℕ) (rest : List T) → length rest < 2 → (length rest == 0) ≡ are_options (map f rest)
-none_left f [] short = refl
-none_left f (word ∷ []) short = refl
-none_left f (word ∷ another ∷ later) short = absurd (omega arith)
-
--- and give no value
+-- fewer than two words give no value
 no_value_left : {T : Type 0} (f : T → List ℕ) (name : List ℕ) (rest : List T) → length rest < 2 → values_under name (map f rest) ≡ []
 no_value_left f name [] short = refl
 no_value_left f name (word ∷ []) short = refl

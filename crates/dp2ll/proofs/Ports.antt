@@ -1,8 +1,7 @@
 -- What a run leaves on log and answer.
-use Rattle.std.proofs.Common.{◌≡◌, ◌⊎◌, ℕ, List, [], append-nil, ap, inl, inr, rules, Option, Some, None}
+use Rattle.std.proofs.Common.{◌≡◌, ◌⊎◌, ℕ, Bool, List, [], append-nil, ap, inl, inr, rules, Option, Some, None}
 use Rattle.solo_core.specs.declared.sheet.Settings.{Settings}
 use Rattle.crew.specs.Log.{log_text}
-use Rattle.crew.specs.Outcome.{outcome_of}
 use Rattle.dp2ll.specs.declared.words.Job.{Job}
 use Rattle.dp2ll.specs.declared.words.Job.TheVariants.{Solve, Check}
 use Rattle.crew.specs.declared.outcome.Verdict.{Verdict}
@@ -13,7 +12,7 @@ use Rattle.dp2ll.specs.declared.ending.Ending.TheVariants.{Answered, Judged, Usa
 use Rattle.desk_io.specs.Told.{InputsTold}
 use Rattle.dp2ll.specs.declared.finding.Finding.{Finding}
 use Rattle.dp2ll.specs.Ending.{status_of, finding_text}
-use Rattle.dp2ll.specs.Outcome.{answer_text}
+use Rattle.dp2ll.specs.Outcome.{answer_of}
 use Rattle.dp2ll.specs.Logging.{LogTold, LogsFault, LogsPart}
 use Rattle.dp2ll.specs.Answering.{Page, WritesBoth, WritesFronts, CutsTexts}
 use Rattle.dp2ll.specs.Serving.{Desk, SolveCause, CheckCause, Serves}
@@ -42,24 +41,24 @@ cut_texts log log_bytes answer_bytes before after writing.AnswerFault cut = inr 
 cut_texts log log_bytes answer_bytes before after writing.NoMemory cut = cut
 
 -- log and answer after `solve`
-solved_texts : (file : List ℕ) (log : Option (List ℕ)) (settings : Settings) (before after : Desk) (how : Ending)
-    → SolveCause file log settings before after how → (after.page ≡ before.page) ⊎ WritesOwn file log settings before after
-solved_texts file log settings before after (Answered verdict) cause = inr (record {
+solved_texts : (file : List ℕ) (log : Option (List ℕ)) (settings : Settings) (trace : Bool) (before after : Desk) (how : Ending)
+    → SolveCause file log settings trace before after how → (after.page ≡ before.page) ⊎ WritesOwn file log settings trace before after
+solved_texts file log settings trace before after (Answered verdict) cause = inr (record {
   cnf = cause.cnf;
   read = cause.read;
-  texts = whole_front log (log_text cause.cnf settings) (answer_text (outcome_of cause.cnf settings)) before.page after.page
+  texts = whole_front log (log_text cause.cnf settings) (answer_of cause.cnf settings trace) before.page after.page
       cause.answered.texts;
 })
-solved_texts file log settings before after (Judged finding) cause = absurd cause
-solved_texts file log settings before after Usage cause = absurd cause
-solved_texts file log settings before after (Unread stop) cause = inl cause.untouched
-solved_texts file log settings before after (Unjudged stop) cause = absurd cause
-solved_texts file log settings before after (Unwritten stop) cause = inr (record {
+solved_texts file log settings trace before after (Judged finding) cause = absurd cause
+solved_texts file log settings trace before after Usage cause = absurd cause
+solved_texts file log settings trace before after (Unread stop) cause = inl cause.untouched
+solved_texts file log settings trace before after (Unjudged stop) cause = absurd cause
+solved_texts file log settings trace before after (Unwritten stop) cause = inr (record {
   cnf = cause.cnf;
   read = cause.read;
-  texts = cut_texts log (log_text cause.cnf settings) (answer_text (outcome_of cause.cnf settings)) before.page after.page stop cause.stops;
+  texts = cut_texts log (log_text cause.cnf settings) (answer_of cause.cnf settings trace) before.page after.page stop cause.stops;
 })
-solved_texts file log settings before after NoMemory cause = absurd cause
+solved_texts file log settings trace before after NoMemory cause = absurd cause
 
 -- log and answer after `check`
 checked_texts : (file proof : List ℕ) (before : Desk) (between : InputsTold) (after : Desk) (how : Ending)
@@ -86,7 +85,7 @@ checked_texts file proof before between after NoMemory cause = absurd cause
 pub served_texts : (job : Option Job) (before after : Desk) (how : Ending) → Serves job before after how
     → (after.page ≡ before.page) ⊎ LeavesOwn job before after
 served_texts None before after how refuses = inl (ap (λ (d : Desk). d.page) refuses.untouched)
-served_texts (Some (Solve file log settings)) before after how (inl solves) = solved_texts file log settings before after how solves.cause
+served_texts (Some (Solve file log settings trace)) before after how (inl solves) = solved_texts file log settings trace before after how solves.cause
 served_texts (Some (Check file proof)) before after how (inl checks) = checked_texts file proof before checks.between after how checks.cause
 served_texts (Some job) before after how (inr gives_up) = inl (ap (λ (d : Desk). d.page) gives_up.untouched)
 
@@ -99,15 +98,15 @@ loud_stop : (stop : WriteStop) → IsSilent (status_of (Unwritten stop)) → ⊥
 loud_stop stop silent = search rules
 
 -- `solve` that ended with a silent status wrote nothing
-silent_solve : (file : List ℕ) (log : Option (List ℕ)) (settings : Settings) (before after : Desk) (how : Ending) → IsSilent (status_of how)
-    → SolveCause file log settings before after how → after.page ≡ before.page
-silent_solve file log settings before after (Answered verdict) silent cause = absurd (loud_verdict verdict silent)
-silent_solve file log settings before after (Judged finding) silent cause = absurd cause
-silent_solve file log settings before after Usage silent cause = absurd cause
-silent_solve file log settings before after (Unread stop) silent cause = cause.untouched
-silent_solve file log settings before after (Unjudged stop) silent cause = absurd cause
-silent_solve file log settings before after (Unwritten stop) silent cause = absurd (loud_stop stop silent)
-silent_solve file log settings before after NoMemory silent cause = absurd cause
+silent_solve : (file : List ℕ) (log : Option (List ℕ)) (settings : Settings) (trace : Bool) (before after : Desk) (how : Ending) → IsSilent (status_of how)
+    → SolveCause file log settings trace before after how → after.page ≡ before.page
+silent_solve file log settings trace before after (Answered verdict) silent cause = absurd (loud_verdict verdict silent)
+silent_solve file log settings trace before after (Judged finding) silent cause = absurd cause
+silent_solve file log settings trace before after Usage silent cause = absurd cause
+silent_solve file log settings trace before after (Unread stop) silent cause = cause.untouched
+silent_solve file log settings trace before after (Unjudged stop) silent cause = absurd cause
+silent_solve file log settings trace before after (Unwritten stop) silent cause = absurd (loud_stop stop silent)
+silent_solve file log settings trace before after NoMemory silent cause = absurd cause
 
 -- a finding has a status at which something may stand on the answer port
 loud_finding : (finding : Finding) → IsSilent (status_of (Judged finding)) → ⊥
@@ -128,8 +127,8 @@ silent_check file proof before between after NoMemory silent cause = absurd caus
 pub silent_run : (job : Option Job) (before after : Desk) (how : Ending) → IsSilent (status_of how) → Serves job before after how
     → after.page ≡ before.page
 silent_run None before after how silent refuses = ap (λ (d : Desk). d.page) refuses.untouched
-silent_run (Some (Solve file log settings)) before after how silent (inl solves) =
-    silent_solve file log settings before after how silent solves.cause
+silent_run (Some (Solve file log settings trace)) before after how silent (inl solves) =
+    silent_solve file log settings trace before after how silent solves.cause
 silent_run (Some (Check file proof)) before after how silent (inl checks) =
     silent_check file proof before checks.between after how silent checks.cause
 silent_run (Some job) before after how silent (inr gives_up) = ap (λ (d : Desk). d.page) gives_up.untouched
@@ -145,8 +144,8 @@ pub unlogged : (job : Option Job) (before after : Desk) → HasNoLog job → (af
     → after.page.log ≡ before.page.log
 unlogged job before after none (inl same) = ap (λ (page : Page). page.log) same
 unlogged None before after none (inr own) = absurd own
-unlogged (Some (Solve file None settings)) before after none (inr own) =
-    unlogged_texts (log_text own.cnf settings) (answer_text (outcome_of own.cnf settings)) before.page after.page own.texts
-unlogged (Some (Solve file (Some name) settings)) before after none (inr own) = absurd none
+unlogged (Some (Solve file None settings trace)) before after none (inr own) =
+    unlogged_texts (log_text own.cnf settings) (answer_of own.cnf settings trace) before.page after.page own.texts
+unlogged (Some (Solve file (Some name) settings trace)) before after none (inr own) = absurd none
 unlogged (Some (Check file proof)) before after none (inr own) =
     unlogged_texts (finding_text own.finding) (finding_text own.finding) before.page after.page own.texts

@@ -1,5 +1,5 @@
 -- Running the cores, and writing the log and the answer of the run.
-use Rattle.std.specs.Prelude.{◌≡◌, ◌⊎◌, ℕ, List, Option, Result, Ok, Err}
+use Rattle.std.specs.Prelude.{◌≡◌, ◌⊎◌, ℕ, Bool, List, Option, Result, Ok, Err}
 use Rattle.std.specs.Io.KnownBytes.{append_known}
 use Rattle.lit_base.specs.Cnf.{Cnf}
 use Rattle.desk_io.specs.Told.{PortTold, OutputsTold, Rose}
@@ -11,7 +11,7 @@ use Rattle.crew.specs.Log.{log_text}
 use Rattle.crew.specs.Outcome.{outcome_of}
 use Rattle.dp2ll.specs.declared.ending.WriteStop.{WriteStop}
 use Rattle.dp2ll.specs.declared.ending.WriteStop.TheVariants.{LogFault, AnswerFault, NoMemory}
-use Rattle.dp2ll.specs.Outcome.{answer_text, IsBacked}
+use Rattle.dp2ll.specs.Outcome.{answer_of, IsBacked}
 use Rattle.dp2ll.specs.Logging.{LogTold, log_told, LogsWhole, LogsFault, LogsPart}
 
 -- what the outputs tell but for the complaint port
@@ -69,20 +69,20 @@ WritesTexts log log_bytes answer_bytes before after (Ok done) = WritesBoth log l
 WritesTexts log log_bytes answer_bytes before after (Err stop) = CutsTexts log log_bytes answer_bytes before after stop
 
 -- the run has this verdict, which is backed, and log and answer hold exactly its texts
-pub record IsAnswered (cnf : Cnf) (settings : Settings) (log : Option (List ℕ)) (before after : Page) (verdict : Verdict) : Type 0 where
+pub record IsAnswered (cnf : Cnf) (settings : Settings) (trace : Bool) (log : Option (List ℕ)) (before after : Page) (verdict : Verdict) : Type 0 where
   pub outcome : (outcome_of cnf settings).verdict ≡ verdict
   pub backed : IsBacked cnf settings
-  pub texts : WritesBoth log (log_text cnf settings) (answer_text (outcome_of cnf settings)) before after
+  pub texts : WritesBoth log (log_text cnf settings) (answer_of cnf settings trace) before after
 
 -- what each way to stop in a run, or while its texts are written, leaves of them
-abbrev pub StopsWriting : Cnf → Settings → Option (List ℕ) → Page → Page → WriteStop → Type 0
-StopsWriting cnf settings log before after stop =
-    CutsTexts log (log_text cnf settings) (answer_text (outcome_of cnf settings)) before after stop
+abbrev pub StopsWriting : Cnf → Settings → Bool → Option (List ℕ) → Page → Page → WriteStop → Type 0
+StopsWriting cnf settings trace log before after stop =
+    CutsTexts log (log_text cnf settings) (answer_of cnf settings trace) before after stop
 
 -- what each answer of answering a formula says
-abbrev pub Answers : Cnf → Settings → Option (List ℕ) → Page → Page → Result Verdict WriteStop → Type 0
-Answers cnf settings log before after (Ok verdict) = IsAnswered cnf settings log before after verdict
-Answers cnf settings log before after (Err stop) = StopsWriting cnf settings log before after stop
+abbrev pub Answers : Cnf → Settings → Bool → Option (List ℕ) → Page → Page → Result Verdict WriteStop → Type 0
+Answers cnf settings trace log before after (Ok verdict) = IsAnswered cnf settings trace log before after verdict
+Answers cnf settings trace log before after (Err stop) = StopsWriting cnf settings trace log before after stop
 
 -- what writing an answer behind a whole log leaves of the answer port, by how it ended
 abbrev pub AnswersPort : List ℕ → PortTold → PortTold → Result (Unit {0}) WriteStop → Type 0

@@ -17,6 +17,7 @@ use Rattle.dp2ll.specs.declared.words.Job.TheVariants.{Solve, Check}
 use Rattle.crew.specs.declared.outcome.Verdict.TheVariants.{Sat, Unsat, Unknown}
 use Rattle.crew.specs.Log.{log_text}
 use Rattle.crew.specs.Outcome.{outcome_of}
+use Rattle.answer_text.specs.Answer.{trace_text}
 use Rattle.dp2ll.specs.declared.ending.ReadStop.TheVariants as reading
 use Rattle.dp2ll.specs.declared.ending.ProofStop.TheVariants as proof
 use Rattle.dp2ll.specs.declared.ending.WriteStop.TheVariants as writing
@@ -27,7 +28,7 @@ use Rattle.dp2ll.specs.declared.ending.Ending.{Ending}
 use Rattle.dp2ll.specs.declared.ending.Ending.TheVariants.{Answered, Judged, Usage, Unread, Unjudged, Unwritten}
 use Rattle.dp2ll.specs.Job.{job_of}
 use Rattle.dp2ll.specs.Ending.{verdict_status, status_of, complaint_of, finding_text, flaw_complaint}
-use Rattle.dp2ll.specs.Outcome.{answer_text, FindsModel, IsRefuted, AreAllSpent}
+use Rattle.dp2ll.specs.Outcome.{answer_of, FindsModel, IsRefuted, AreAllSpent}
 use Rattle.dp2ll.specs.Logging.{log_told, LogsWhole}
 use Rattle.dp2ll.specs.Answering.{WritesBoth, WritesFronts}
 use Rattle.dp2ll.specs.Complaint.{Tells, TellsFront, Complains}
@@ -70,20 +71,20 @@ pub record Headline (run : Run) : Type 0 where
   pub complains : Complains (complaint_of how) (status_of how) (run.before.at Complaint) (run.after.at Complaint) run.status
 
 -- the job is `solve` on a file, with a log or none and with settings, of which this holds
-abbrev pub OnSolve : Option Job → (List ℕ → Option (List ℕ) → Settings → Type 0) → Type 0
+abbrev pub OnSolve : Option Job → (List ℕ → Option (List ℕ) → Settings → Bool → Type 0) → Type 0
 OnSolve None P = ⊥
-OnSolve (Some (Solve file log settings)) P = P file log settings
+OnSolve (Some (Solve file log settings trace)) P = P file log settings trace
 OnSolve (Some (Check file proof)) P = ⊥
 
 -- the job is `check` of a formula's file and a proof's, of which this holds
 abbrev pub OnCheck : Option Job → (List ℕ → List ℕ → Type 0) → Type 0
 OnCheck None P = ⊥
-OnCheck (Some (Solve file log settings)) P = ⊥
+OnCheck (Some (Solve file log settings trace)) P = ⊥
 OnCheck (Some (Check file proof)) P = P file proof
 
 -- the job is `solve`
 abbrev pub IsSolve : Option Job → Type 0
-IsSolve job = OnSolve job (λ file log settings. Unit {0})
+IsSolve job = OnSolve job (λ file log settings trace. Unit {0})
 
 -- the job is `check`
 abbrev pub IsCheck : Option Job → Type 0
@@ -121,16 +122,17 @@ abbrev pub IsToldFormula : Run → List ℕ → Cnf → Type 0
 IsToldFormula run file cnf = (bytes : List ℕ) → run.inputs_before.held Formula file ≡ Some bytes → formula_of bytes ≡ Ok cnf
 
 -- the printed model is one that the run found: it has a value for each variable and satisfies the formula, which is the file's
-pub record PrintsModel (run : Run) (file : List ℕ) (settings : Settings) : Type 0 where
+pub record PrintsModel (run : Run) (file : List ℕ) (settings : Settings) (trace : Bool) : Type 0 where
   pub cnf : Cnf
   pub model : List Bool
   pub found : FindsModel cnf settings model
-  pub printed : (run.after.at Answer).written ≡ append_known (run.before.at Answer).written (codes "s SATISFIABLE\n" ++ values_text model)
+  pub printed : (run.after.at Answer).written ≡ append_known (run.before.at Answer).written
+      (trace_text (outcome_of cnf settings) settings trace ++ (codes "s SATISFIABLE\n" ++ values_text model))
   pub told : IsToldFormula run file cnf
 
 -- at status 10 a model is printed, and it satisfies the formula
 abbrev pub IsModel : Run → Type 0
-IsModel run = run.status ≡ 10 → OnSolve run.job (λ file log settings. PrintsModel run file settings)
+IsModel run = run.status ≡ 10 → OnSolve run.job (λ file log settings trace. PrintsModel run file settings trace)
 
 -- the log is that of a proof that checks, so no model satisfies the formula, which is the file's
 pub record PrintsProof (run : Run) (file : List ℕ) (log : Option (List ℕ)) (settings : Settings) : Type 0 where
@@ -141,7 +143,7 @@ pub record PrintsProof (run : Run) (file : List ℕ) (log : Option (List ℕ)) (
 
 -- at status 20 the proof checks, and a log that is named holds exactly its lines
 abbrev pub IsRefutation : Run → Type 0
-IsRefutation run = run.status ≡ 20 → OnSolve run.job (λ file log settings. PrintsProof run file log settings)
+IsRefutation run = run.status ≡ 20 → OnSolve run.job (λ file log settings trace. PrintsProof run file log settings)
 
 -- the statuses of a run that has a verdict
 abbrev pub IsVerdict : ℕ → Type 0
@@ -155,7 +157,7 @@ pub record GivesUpSpent (run : Run) (file : List ℕ) (settings : Settings) : Ty
 
 -- of the three verdicts, unknown comes exactly where every core has spent its limit
 abbrev pub IsUnknown : Run → Type 0
-IsUnknown run = IsVerdict run.status → OnSolve run.job (λ file log settings. GivesUpSpent run file settings)
+IsUnknown run = IsVerdict run.status → OnSolve run.job (λ file log settings trace. GivesUpSpent run file settings)
 
 -- the formula's slot was begun with this file, and then the proof's with that, or not at all
 pub record ReadsTwo (file proof : List ℕ) (before after : InputsTold) : Type 0 where
@@ -166,7 +168,7 @@ pub record ReadsTwo (file proof : List ℕ) (before after : InputsTold) : Type 0
 -- a slot is begun at most once, with the file that the job names for it, and nothing else of the inputs changes
 abbrev pub ReadsFile : Option Job → InputsTold → InputsTold → Type 0
 ReadsFile None before after = after ≡ before
-ReadsFile (Some (Solve file log settings)) before after = BeginsFormula file before after ⊎ (after ≡ before)
+ReadsFile (Some (Solve file log settings trace)) before after = BeginsFormula file before after ⊎ (after ≡ before)
 ReadsFile (Some (Check file proof)) before after = ReadsTwo file proof before after ⊎ (after ≡ before)
 
 -- the run ended for want of memory, with its line, or memory was refused to the complaint of another ending whose cause holds
@@ -186,10 +188,10 @@ pub record IsRefusal (run : Run) : Type 0 where
 
 -- the file is this formula, and of the texts of its run a front of the log stands and nothing of the answer, or the whole log
 -- and a front of the answer
-pub record WritesOwn (file : List ℕ) (log : Option (List ℕ)) (settings : Settings) (before after : Desk) : Type 0 where
+pub record WritesOwn (file : List ℕ) (log : Option (List ℕ)) (settings : Settings) (trace : Bool) (before after : Desk) : Type 0 where
   pub cnf : Cnf
   pub read : ReadsAs file before after cnf
-  pub texts : WritesFronts log (log_text cnf settings) (answer_text (outcome_of cnf settings)) before.page after.page
+  pub texts : WritesFronts log (log_text cnf settings) (answer_of cnf settings trace) before.page after.page
 
 -- this was found of the proof, a front of the answer that says so stands, and nothing of logs changed
 pub record SaysOwn (file proof : List ℕ) (before after : Desk) : Type 0 where
@@ -201,14 +203,14 @@ pub record SaysOwn (file proof : List ℕ) (before after : Desk) : Type 0 where
 -- what a command leaves of its own texts
 abbrev pub LeavesOwn : Option Job → Desk → Desk → Type 0
 LeavesOwn None before after = ⊥
-LeavesOwn (Some (Solve file log settings)) before after = WritesOwn file log settings before after
+LeavesOwn (Some (Solve file log settings trace)) before after = WritesOwn file log settings trace before after
 LeavesOwn (Some (Check file proof)) before after = SaysOwn file proof before after
 
 -- the job names no log
 abbrev pub HasNoLog : Option Job → Type 0
 HasNoLog None = Unit {0}
-HasNoLog (Some (Solve file None settings)) = Unit {0}
-HasNoLog (Some (Solve file (Some name) settings)) = ⊥
+HasNoLog (Some (Solve file None settings trace)) = Unit {0}
+HasNoLog (Some (Solve file (Some name) settings trace)) = ⊥
 HasNoLog (Some (Check file proof)) = Unit {0}
 
 -- the statuses at which neither log nor answer is touched
@@ -228,9 +230,9 @@ pub record IsCalm (run : Run) : Type 0 where
   pub answer : ¬ Rose (run.before.at Answer).faults (run.after.at Answer).faults
 
 -- the run has the verdict of this status, and its log and answer are written
-pub record AnswersFormula (cnf : Cnf) (log : Option (List ℕ)) (settings : Settings) (run : Run) : Type 0 where
+pub record AnswersFormula (cnf : Cnf) (log : Option (List ℕ)) (settings : Settings) (trace : Bool) (run : Run) : Type 0 where
   pub status : run.status ≡ verdict_status (outcome_of cnf settings).verdict
-  pub texts : WritesBoth log (log_text cnf settings) (answer_text (outcome_of cnf settings)) (desk_before run).page (desk_after run).page
+  pub texts : WritesBoth log (log_text cnf settings) (answer_of cnf settings trace) (desk_before run).page (desk_after run).page
 
 -- the file has this fault, and the complaint says so
 pub record RefusesFile (fault : CnfFault) (run : Run) : Type 0 where
@@ -238,17 +240,17 @@ pub record RefusesFile (fault : CnfFault) (run : Run) : Type 0 where
   pub complaint : Tells (complaint_of (Unread (reading.NoFormula fault))) (run.before.at Complaint) (run.after.at Complaint)
 
 -- the status and the texts of a file, which may be no formula; want of memory may always come
-abbrev pub AnswersFile : Result Cnf CnfFault → Option (List ℕ) → Settings → Run → Type 0
-AnswersFile (Ok cnf) log settings run = IsCalm run → AnswersFormula cnf log settings run ⊎ (run.status ≡ 5)
-AnswersFile (Err fault) log settings run = RefusesFile fault run ⊎ (run.status ≡ 5)
+abbrev pub AnswersFile : Result Cnf CnfFault → Option (List ℕ) → Settings → Bool → Run → Type 0
+AnswersFile (Ok cnf) log settings trace run = IsCalm run → AnswersFormula cnf log settings trace run ⊎ (run.status ≡ 5)
+AnswersFile (Err fault) log settings trace run = RefusesFile fault run ⊎ (run.status ≡ 5)
 
 -- where the file is told and no call on its slot failed, its bytes alone decide
 abbrev pub IsComplete : Run → Type 0
 IsComplete run =
-    (file : List ℕ) (log : Option (List ℕ)) (settings : Settings) (bytes : List ℕ) → run.job ≡ Some (Solve file log settings)
+    (file : List ℕ) (log : Option (List ℕ)) (settings : Settings) (trace : Bool) (bytes : List ℕ) → run.job ≡ Some (Solve file log settings trace)
     → run.inputs_before.held Formula file ≡ Some bytes
     → ¬ Rose (run.inputs_before.at Formula).faults (run.inputs_after.at Formula).faults
-    → AnswersFile (formula_of bytes) log settings run
+    → AnswersFile (formula_of bytes) log settings trace run
 
 -- == `check` ==
 

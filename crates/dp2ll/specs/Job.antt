@@ -1,5 +1,5 @@
 -- Command lines: what the words after the program's name ask for.
-use Rattle.std.specs.Prelude.{◌≡◌, ℕ, ◌==◌, nat_le, Bool, true, false, not, ◌&&◌, ◌||◌, List, [], ◌∷◌, length, codes, Option, Some, None, option_map, option_and_then, Result, Ok, Err, if◌then◌else◌, bytes_eq}
+use Rattle.std.specs.Prelude.{◌≡◌, ℕ, ◌==◌, nat_le, Bool, true, false, not, ◌&&◌, ◌||◌, List, [], ◌∷◌, length, count_by, codes, Option, Some, None, option_map, option_and_then, Result, Ok, Err, if◌then◌else◌, bytes_eq}
 use Rattle.std.specs.List.{list_all}
 use Rattle.std.specs.Char.{is_ascii_digit}
 use Rattle.std.specs.Str.Parse.{digits_value}
@@ -33,7 +33,11 @@ number_or low high otherwise (Some text) = number_of low high text
 
 -- == options ==
 
--- the options of `solve`: each is two words, its name and a value
+-- the flag of `solve` is one word
+abbrev pub is_flag : List ℕ → Bool
+is_flag word = bytes_eq word (codes "--trace")
+
+-- the other options of `solve`: each is two words, its name and a value
 abbrev pub is_option : List ℕ → List ℕ → Bool
 is_option name value = (bytes_eq name (codes "--cores") || bytes_eq name (codes "--period") || bytes_eq name (codes "--share") || bytes_eq name (codes "--limit")
     || bytes_eq name (codes "--seed") || bytes_eq name (codes "--log")) && is_file_word value
@@ -41,20 +45,29 @@ is_option name value = (bytes_eq name (codes "--cores") || bytes_eq name (codes 
 -- the words are options, one after the other
 abbrev pub are_options : List (List ℕ) → Bool
 are_options [] = true
-are_options (name ∷ []) = false
-are_options (name ∷ value ∷ later) = is_option name value && are_options later
+are_options (word ∷ []) = is_flag word
+are_options (word ∷ value ∷ later) = if is_flag word then are_options (value ∷ later) else (is_option word value && are_options later)
 
--- the values that options give under a name
+-- the words that stand behind a name; no value of an option is a name
 abbrev pub values_under : List ℕ → List (List ℕ) → List (List ℕ)
 values_under name [] = []
 values_under name (word ∷ []) = []
-values_under name (word ∷ value ∷ later) = if bytes_eq word name then value ∷ values_under name later else values_under name later
+values_under name (word ∷ value ∷ later) =
+    if bytes_eq word name then value ∷ values_under name (value ∷ later) else values_under name (value ∷ later)
 
 -- a name is given at most once: the value under it, where there is one
 abbrev pub once : List (List ℕ) → Option (Option (List ℕ))
 once [] = Some None
 once (value ∷ []) = Some (Some value)
 once (value ∷ another ∷ more) = None
+
+-- how often the flag is given; no value of an option is the flag
+abbrev pub flags_in : List (List ℕ) → ℕ
+flags_in options = count_by is_flag options
+
+-- the flag is given at most once: whether it is
+abbrev pub flag_of : List (List ℕ) → Option Bool
+flag_of options = if nat_le (flags_in options) 1 then Some (flags_in options == 1) else None
 
 -- the number under a name
 abbrev pub number_under : List ℕ → ℕ → ℕ → ℕ → List (List ℕ) → Option ℕ
@@ -85,15 +98,17 @@ settings_of options =
 
 -- == jobs ==
 
--- `solve` on this file, with these settings and this log, where they are given
-abbrev pub solve_with : List ℕ → Option Settings → Option (Option (List ℕ)) → Option Job
-solve_with file settings log = option_and_then (λ s. option_map (λ name. Solve file name s) log) settings
+-- `solve` on this file, with these settings, this log and the flag, where they are given
+abbrev pub solve_with : List ℕ → Option Settings → Option (Option (List ℕ)) → Option Bool → Option Job
+solve_with file settings log trace = option_and_then (λ s. option_and_then (λ name. option_map (λ t. Solve file name s t) trace) log) settings
 
 -- the arguments of `solve`: a file word, and then options
 abbrev pub solve_of : List (List ℕ) → Option Job
 solve_of [] = None
 solve_of (file ∷ options) =
-    if is_file_word file && are_options options then solve_with file (settings_of options) (once (values_under (codes "--log") options)) else None
+    if is_file_word file && are_options options
+    then solve_with file (settings_of options) (once (values_under (codes "--log") options)) (flag_of options)
+    else None
 
 -- the arguments of `check`: two file words, the formula's and the proof's
 abbrev pub check_of : List (List ℕ) → Option Job
@@ -110,7 +125,7 @@ job_of (command ∷ arguments) =
 
 -- a job's settings are in their ranges
 abbrev pub IsInRange : Job → Type 0
-IsInRange (Solve file log settings) = AreInRange settings
+IsInRange (Solve file log settings trace) = AreInRange settings
 IsInRange (Check file proof) = Unit {0}
 
 -- reading the words gives their job, and a usage fault exactly where there is none

@@ -1,34 +1,22 @@
--- What backs the verdict of a run, and the answer that says it.
-use Rattle.std.specs.Prelude.{◌≡◌, ◌↔◌, ℕ, Bool, List, [], ◌++◌, length, codes, Option, Some, None}
+-- The answer of a run, and what backs its verdict.
+use Rattle.std.specs.Prelude.{◌≡◌, ◌↔◌, ℕ, Bool, List, length, Some}
 use Rattle.std.specs.List.{AllByRecursion}
 use Rattle.lit_base.specs.Cnf.{Cnf}
 use Rattle.lit_base.specs.Truth.{Satisfies}
-use Rattle.lit_base.specs.Text.{values_text, lines_text}
+use Rattle.lit_base.specs.Text.{lines_text}
 use Rattle.lit_base.specs.Judgement.{Checks, HasNoModel}
 use Rattle.solo_core.specs.Soundness.{EndsEmpty}
 use Rattle.solo_core.specs.declared.sheet.End.TheVariants.{Spent}
 use Rattle.solo_core.specs.declared.sheet.Settings.{Settings}
-use Rattle.crew.specs.declared.outcome.Verdict.{Verdict}
 use Rattle.crew.specs.declared.outcome.Verdict.TheVariants.{Sat, Unsat, Unknown}
-use Rattle.crew.specs.declared.outcome.Outcome.{Outcome}
 use Rattle.crew.specs.Run.{last_ends}
 use Rattle.crew.specs.Log.{log_of, log_lines, log_text}
 use Rattle.crew.specs.Outcome.{outcome_of}
+use Rattle.answer_text.specs.Answer.{answer_text}
 
--- the `s` line of a verdict (the answer format of the SAT competitions)
-abbrev pub verdict_line : Verdict → List ℕ
-verdict_line Sat = codes "s SATISFIABLE\n"
-verdict_line Unsat = codes "s UNSATISFIABLE\n"
-verdict_line Unknown = codes "s UNKNOWN\n"
-
--- the `v` lines of a model, where there is one
-abbrev pub model_lines : Option (List Bool) → List ℕ
-model_lines None = []
-model_lines (Some model) = values_text model
-
--- the answer of a run: the `s` line, and the `v` lines of a model
-abbrev pub answer_text : Outcome → List ℕ
-answer_text outcome = verdict_line outcome.verdict ++ model_lines outcome.model
+-- the answer of the run with these settings, behind its trace where that is asked for
+abbrev pub answer_of : Cnf → Settings → Bool → List ℕ
+answer_of cnf settings trace = answer_text (outcome_of cnf settings) settings trace
 
 -- the model has a value for each variable, and satisfies the formula
 pub record IsModelOf (cnf : Cnf) (model : List Bool) : Type 0 where

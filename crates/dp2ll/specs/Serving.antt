@@ -1,5 +1,5 @@
 -- What each ending of a run says of the file that was read, of the log and of the answer.
-use Rattle.std.specs.Prelude.{◌≡◌, ◌⊎◌, ℕ, List, Option, Some, None, Result, Ok, Err}
+use Rattle.std.specs.Prelude.{◌≡◌, ◌⊎◌, ℕ, Bool, List, Option, Some, None, Result, Ok, Err}
 use Rattle.lit_base.specs.Cnf.{Cnf}
 use Rattle.desk_io.specs.Told.{InputsTold, OutputsTold}
 use Rattle.desk_io.specs.declared.Slot.TheVariants.{Formula, Proof}
@@ -34,10 +34,10 @@ abbrev pub ReadsAs : List ℕ → Desk → Desk → Cnf → Type 0
 ReadsAs file before after cnf = IsRead (before.inputs.held Formula file) (after.inputs.at Formula).left cnf
 
 -- the file is a formula, whose run has this verdict, and the texts of the run are written
-pub record IsSolved (file : List ℕ) (log : Option (List ℕ)) (settings : Settings) (before after : Desk) (verdict : Verdict) : Type 0 where
+pub record IsSolved (file : List ℕ) (log : Option (List ℕ)) (settings : Settings) (trace : Bool) (before after : Desk) (verdict : Verdict) : Type 0 where
   pub cnf : Cnf
   pub read : ReadsAs file before after cnf
-  pub answered : IsAnswered cnf settings log before.page after.page verdict
+  pub answered : IsAnswered cnf settings trace log before.page after.page verdict
 
 -- the file gave no formula, and nothing was written
 pub record IsUnread (file : List ℕ) (before after : Desk) (stop : ReadStop) : Type 0 where
@@ -45,25 +45,25 @@ pub record IsUnread (file : List ℕ) (before after : Desk) (stop : ReadStop) : 
   pub untouched : after.page ≡ before.page
 
 -- the file is a formula, and the texts of its run were cut short
-pub record IsUnwritten (file : List ℕ) (log : Option (List ℕ)) (settings : Settings) (before after : Desk) (stop : WriteStop) : Type 0 where
+pub record IsUnwritten (file : List ℕ) (log : Option (List ℕ)) (settings : Settings) (trace : Bool) (before after : Desk) (stop : WriteStop) : Type 0 where
   pub cnf : Cnf
   pub read : ReadsAs file before after cnf
-  pub stops : StopsWriting cnf settings log before.page after.page stop
+  pub stops : StopsWriting cnf settings trace log before.page after.page stop
 
 -- the cause of each ending of `solve` with these words, once the file was begun
-abbrev pub SolveCause : List ℕ → Option (List ℕ) → Settings → Desk → Desk → Ending → Type 0
-SolveCause file log settings before after (Answered verdict) = IsSolved file log settings before after verdict
-SolveCause file log settings before after (Judged finding) = ⊥
-SolveCause file log settings before after Usage = ⊥
-SolveCause file log settings before after (Unread stop) = IsUnread file before after stop
-SolveCause file log settings before after (Unjudged stop) = ⊥
-SolveCause file log settings before after (Unwritten stop) = IsUnwritten file log settings before after stop
-SolveCause file log settings before after NoMemory = ⊥
+abbrev pub SolveCause : List ℕ → Option (List ℕ) → Settings → Bool → Desk → Desk → Ending → Type 0
+SolveCause file log settings trace before after (Answered verdict) = IsSolved file log settings trace before after verdict
+SolveCause file log settings trace before after (Judged finding) = ⊥
+SolveCause file log settings trace before after Usage = ⊥
+SolveCause file log settings trace before after (Unread stop) = IsUnread file before after stop
+SolveCause file log settings trace before after (Unjudged stop) = ⊥
+SolveCause file log settings trace before after (Unwritten stop) = IsUnwritten file log settings trace before after stop
+SolveCause file log settings trace before after NoMemory = ⊥
 
 -- `solve` on this file, with this log where one is named: the file was begun, and then one of the endings came by its cause
-pub record Solves (file : List ℕ) (log : Option (List ℕ)) (settings : Settings) (before after : Desk) (how : Ending) : Type 0 where
+pub record Solves (file : List ℕ) (log : Option (List ℕ)) (settings : Settings) (trace : Bool) (before after : Desk) (how : Ending) : Type 0 where
   pub begun : BeginsFormula file before.inputs after.inputs
-  pub cause : SolveCause file log settings before after how
+  pub cause : SolveCause file log settings trace before after how
 
 -- == `check` ==
 
@@ -154,7 +154,7 @@ pub record GivesUp (before after : Desk) (how : Ending) : Type 0 where
 -- a command that begins its file ended like this by its cause; other words begin nothing
 abbrev pub ServesJob : Option Job → Desk → Desk → Ending → Type 0
 ServesJob None before after how = ⊥
-ServesJob (Some (Solve file log settings)) before after how = Solves file log settings before after how
+ServesJob (Some (Solve file log settings trace)) before after how = Solves file log settings trace before after how
 ServesJob (Some (Check file proof)) before after how = ChecksProof file proof before after how
 
 -- a run by its job: words that are no command line are refused

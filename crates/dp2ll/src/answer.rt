@@ -1,41 +1,45 @@
-ghost use Rattle.std.specs.Prelude.{◌≡◌, ◌≤◌, [], None, IfOk};
+ghost use Rattle.std.specs.Prelude.{◌≡◌, ◌≤◌, ◌↔◌, [], None, IsNone, IsSome, IfOk};
 ghost use Rattle.desk_io.specs.declared.Port.TheVariants.{Answer, Log};
 ghost use Rattle.solo_core.specs.First.{AreInRange};
 ghost use Rattle.crew.specs.Log.{log_text};
+ghost use Rattle.crew.specs.declared.outcome.Verdict.TheVariants.{Sat, Unknown};
 ghost use Rattle.crew.specs.Outcome.{outcome_of};
+ghost use Rattle.answer_text.specs.Answer.{answer_text};
 ghost use Rattle.dp2ll.specs.Answering.{Answers, AnswersPort, WritesTexts, page_of, KeepsComplaint};
 ghost use Rattle.dp2ll.specs.Logging.{KeepsLog, log_told};
 ghost use Rattle.dp2ll.specs.Ending.{finding_text};
-ghost use Rattle.dp2ll.specs.Outcome.{answer_text};
 ghost use Rattle.dp2ll.specs.Running.{without_outcome};
 
 use crate::backing::law_verdict_is_backed;
 use crate::ending::WriteStop;
 use crate::finding::Finding;
-use crate::texts::answer_text;
-use crew::{Outcome, Verdict, run_turns};
+use answer_text::write_answer;
+use crew::{Outcome, Stop, Verdict, law_model_satisfies_formula, law_winner_is_first, run_turns};
 use desk_io::{Outputs, Port, PortFault, write_whole};
 use lit_base::{Formula, Text};
 use solo_core::Settings;
 use std::alloc::Global;
 
-/// Runs the cores on a formula, with its log where one is named, and writes the answer.
+/// Runs the cores on a formula, with its log where one is named, and writes the answer, with the trace where it is asked for.
 pub(crate) fn answer<O: Outputs>(
     alloc: Global,
     formula: &Formula,
     settings: &Settings,
+    trace: bool,
     log: &Option<Text>,
     outputs: &mut O,
 ) -> Result<Verdict, WriteStop>
     requires { AreInRange settings.now }
-    ensures answers { Answers formula.now settings.now log.now (page_of (O.told outputs.old)) (page_of (O.told outputs.new)) result }
+    ensures answers { Answers formula.now settings.now trace log.now (page_of (O.told outputs.old)) (page_of (O.told outputs.new)) result }
     ensures complaint { KeepsComplaint (O.told outputs.old) (O.told outputs.new) }
 {
     law_verdict_is_backed();
+    law_winner_is_first();
+    law_model_satisfies_formula();
     // for the checker alone: that the formula is one within the limits
     let _ = formula.variables();
     let outcome = run_logged(alloc, formula, settings, log, outputs)?;
-    write_answer(alloc, &outcome, outputs)?;
+    say_outcome(alloc, &outcome, settings, trace, outputs)?;
     Ok(outcome.verdict)
 }
 
@@ -76,20 +80,24 @@ fn create_log<O: Outputs>(outputs: &mut O, log: &Option<Text>) -> Result<(), Wri
 }
 
 /// Writes the answer of a run.
-fn write_answer<O: Outputs>(
+fn say_outcome<O: Outputs>(
     alloc: Global,
     outcome: &Outcome,
+    settings: &Settings,
+    trace: bool,
     outputs: &mut O,
 ) -> Result<(), WriteStop>
-    ensures answer { AnswersPort (answer_text outcome.now) ((O.told outputs.old).at Answer) ((O.told outputs.new).at Answer) result }
+    requires range { AreInRange settings.now }
+    requires winner { IsNone outcome.now.winner ↔ (outcome.now.verdict ≡ Unknown) }
+    requires model { outcome.now.verdict ≡ Sat → IsSome outcome.now.model }
+    ensures answer { AnswersPort (answer_text outcome.now settings.now trace) ((O.told outputs.old).at Answer) ((O.told outputs.new).at Answer) result }
     ensures log { log_told (O.told outputs.new) ≡ log_told (O.told outputs.old) }
     ensures complaint { KeepsComplaint (O.told outputs.old) (O.told outputs.new) }
 {
-    let text = answer_text(alloc, outcome)?;
-    match write_whole(outputs, Port::Answer, text.as_slice()) {
+    match write_answer(alloc, outcome, settings, trace, outputs) {
         Ok(()) => Ok(()),
-        Err(PortFault::Failed) => Err(WriteStop::AnswerFault),
-        Err(PortFault::NoMemory) => Err(WriteStop::NoMemory),
+        Err(Stop::WriteFault) => Err(WriteStop::AnswerFault),
+        Err(Stop::NoMemory) => Err(WriteStop::NoMemory),
     }
 }
 

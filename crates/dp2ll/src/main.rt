@@ -12,8 +12,6 @@ mod read;
 mod run;
 #[cfg(test)]
 mod tests;
-mod texts;
-mod values;
 mod words;
 
 use complaint::complain;

@@ -81,11 +81,22 @@ fn serve<I: Inputs, O: Outputs>(
                 file,
                 log,
                 settings,
+                trace,
             },
-        ) => match solve(alloc, file.as_str(), &log, &settings, inputs, outputs) {
-            Ok(verdict) => Ending::Answered(verdict),
-            Err(ending) => ending,
-        },
+        ) => {
+            match solve(
+                alloc,
+                file.as_str(),
+                &log,
+                &settings,
+                trace,
+                inputs,
+                outputs,
+            ) {
+                Ok(verdict) => Ending::Answered(verdict),
+                Err(ending) => ending,
+            }
+        }
         Ok(Job::Check { file, proof }) => {
             match check(alloc, file.as_str(), proof.as_str(), inputs, outputs) {
                 Ok(finding) => Ending::Judged(finding),
@@ -103,16 +114,17 @@ fn solve<I: Inputs, O: Outputs>(
     file: &str,
     log: &Option<Text>,
     settings: &Settings,
+    trace: bool,
     inputs: &mut I,
     outputs: &mut O,
 ) -> Result<Verdict, Ending>
     requires { AreInRange settings.now }
-    ensures solves { Solves file.now log.now settings.now (desk (I.told inputs.old) (O.told outputs.old))
+    ensures solves { Solves file.now log.now settings.now trace (desk (I.told inputs.old) (O.told outputs.old))
         (desk (I.told inputs.new) (O.told outputs.new)) (ending_of result) }
     ensures complaint { KeepsComplaint (O.told outputs.old) (O.told outputs.new) }
 {
     let formula = read_formula(alloc, file, inputs)?;
-    Ok(answer(alloc, &formula, settings, log, outputs)?)
+    Ok(answer(alloc, &formula, settings, trace, log, outputs)?)
 }
 
 /// Reads the file as a formula, judges the proof in the other file, and writes what it found.

@@ -22,8 +22,6 @@ const PLAIN: [&str; 2] = ["solve", "f"];
 
 const LOGGED: [&str; 4] = ["solve", "f", "--log", "g"];
 
-const LIMITED: [&str; 8] = ["solve", "f", "--limit", "1", "--cores", "1", "--log", "g"];
-
 /// A formula's file, the status of `solve` on it, and what stands on the ports; a log of None is not created.
 ///
 /// `stop` is the byte with which reading has to stop, 0 where it has to go on to the end.
@@ -449,18 +447,75 @@ fn a_file_gives_the_same_for_every_cutting(rt: HostRuntime) -> Result<(), Fail> 
     Ok(())
 }
 
-/// With a limit of one conflict the same formula is given up behind its first lemma.
-#[test]
-fn a_spent_limit_is_unknown(rt: HostRuntime) -> Result<(), Fail> {
-    let wanted = Wanted {
+/// A run of the four clauses of two variables with a log, and what it leaves.
+struct Told {
+    words: &'static [&'static str],
+    status: u8,
+    answer: &'static [u8],
+    log: &'static [u8],
+}
+
+static TOLD: [Told; 4] = [
+    Told {
+        words: &[
+            "solve", "f", "--cores", "2", "--period", "1", "--limit", "10", "--trace", "--log", "g",
+        ],
+        status: 20,
+        answer: b"c core 0 phase 0 unit 100 weight 1 halve 256 noise 0 share 8
+c core 1 phase 1 unit 100 weight 1 halve 256 noise 0 share 8
+c era 1 0 1 1 1 1
+c era 1 1 1 1 1 1
+c era 2 0 1 2 0 0
+c era 2 1 1 2 0 0
+c winner 0
+s UNSATISFIABLE
+",
+        log: b"5 1 0 1 2 0\n6 -1 0 3 4 0\n7 0 5 6 0\n",
+    },
+    Told {
+        words: &[
+            "solve", "f", "--cores", "2", "--period", "1", "--limit", "10", "--share", "0",
+            "--log", "g",
+        ],
+        status: 20,
+        answer: b"s UNSATISFIABLE\n",
+        log: b"5 1 0 1 2 0\n6 -1 0 3 4 0\n7 0 5 3 4 0\n",
+    },
+    Told {
+        words: &["solve", "f", "--limit", "1", "--cores", "1", "--log", "g"],
         status: 0,
         answer: b"s UNKNOWN\n",
         log: b"5 1 0 1 2 0\n",
-        complaint: b"",
-        names: 1,
-        reads: 2,
-    };
-    run_on(&rt, rt.alloc(), &LIMITED, SQUARE, 4096, NONE)?.is(&rt, &wanted, "limit", 4096);
+    },
+    Told {
+        words: &[
+            "solve", "f", "--trace", "--cores", "1", "--limit", "1", "--log", "g",
+        ],
+        status: 0,
+        answer: b"c core 0 phase 0 unit 100 weight 1 halve 256 noise 0 share 8
+c era 1 0 1 1 1 0
+c winner none
+s UNKNOWN
+",
+        log: b"5 1 0 1 2 0\n",
+    },
+];
+
+/// With `--trace` the answer begins with the cores, what each did in each era, and the winner. Two cores share their lemmas,
+/// but for a share of 0. With a limit of one conflict the formula is given up behind its first lemma.
+#[test]
+fn runs_of_few_conflicts(rt: HostRuntime) -> Result<(), Fail> {
+    for row in &TOLD {
+        let wanted = Wanted {
+            status: row.status,
+            answer: row.answer,
+            log: row.log,
+            complaint: b"",
+            names: 1,
+            reads: 2,
+        };
+        run_on(&rt, rt.alloc(), row.words, SQUARE, 4096, NONE)?.is(&rt, &wanted, "trace", 4096);
+    }
     Ok(())
 }
 
@@ -647,7 +702,7 @@ static REFUSALS: [Refusal; 7] = [
 ];
 
 /// Words that are no command line.
-static FAULTY: [&[&str]; 33] = [
+static FAULTY: [&[&str]; 37] = [
     &[],
     &["solve"],
     &["solve", ""],
@@ -673,6 +728,10 @@ static FAULTY: [&[&str]; 33] = [
     &["solve", "f", "--period", "0"],
     &["solve", "f", "--share", "65"],
     &["solve", "f", "--seed", "18446744073709551616"],
+    &["solve", "f", "--trace", "--trace"],
+    &["solve", "f", "--trace=1"],
+    &["solve", "f", "--trace", "x"],
+    &["solve", "f", "--log", "--trace"],
     &["solve", "f", "g"],
     &["Solve", "f"],
     &["check", "f"],

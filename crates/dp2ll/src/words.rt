@@ -1,7 +1,7 @@
-ghost use Rattle.std.specs.Prelude.{◌≡◌, ◌≤◌, ◌&&◌, ◌||◌, ◌∷◌, [], Some, None, map, string_bytes, bytes_eq, codes, option_map, IfSome, IfOk};
+ghost use Rattle.std.specs.Prelude.{◌≡◌, ◌≤◌, ◌&&◌, ◌||◌, ◌∷◌, [], true, false, Some, None, map, string_bytes, bytes_eq, codes, option_map, IfSome, IfOk};
 ghost use Rattle.solo_core.specs.First.{AreInRange};
 ghost use Rattle.dp2ll.specs.declared.words.Job.TheVariants.{Solve, Check};
-ghost use Rattle.dp2ll.specs.Job.{job_of, solve_of, check_of, settings_of, is_number, number_of, number_or, number_under, settings_with, is_file_word, is_option, are_options, values_under, once, IsInRange, ReadsWords};
+ghost use Rattle.dp2ll.specs.Job.{job_of, solve_of, check_of, settings_of, is_number, number_of, number_or, number_under, settings_with, is_file_word, is_flag, is_option, are_options, values_under, once, flag_of, IsInRange, ReadsWords};
 
 use lit_base::{NoMemory, Text, is_digits};
 use solo_core::Settings;
@@ -13,12 +13,13 @@ const DIGITS: usize = 20;
 /// What a command line asks for.
 #[derive(Debug, Drop)]
 pub enum Job {
-    /// `solve FILE`: decide the formula in the file with these settings, and write the log to the file that `--log`
-    /// names.
+    /// `solve FILE`: decide the formula in the file with these settings, write the log to the file that `--log`
+    /// names, and with `--trace` begin the answer with what the cores did.
     Solve {
         file: Text,
         log: Option<Text>,
         settings: Settings,
+        trace: bool,
     },
     /// `check FILE PROOF`: judge the proof in the second file against the formula in the first.
     Check {
@@ -49,8 +50,8 @@ impl From<NoMemory> for WordFault {
 
 /// The job that the words after the program's name ask for: `check` and two file words, or `solve`, one file word, and then
 /// options in any order, each at most once: `--cores` from 1 to 16 (4 without it), `--period` from 1 to 100,000 (300),
-/// `--share` from 0 to 64 (8), `--limit` from 1 to 1,000,000,000 (10,000,000), `--seed` from 0 to 2^64 - 1 (0), and `--log`
-/// with a file word.
+/// `--share` from 0 to 64 (8), `--limit` from 1 to 1,000,000,000 (10,000,000), `--seed` from 0 to 2^64 - 1 (0), `--log`
+/// with a file word, and the flag `--trace`.
 ///
 /// A file word is not empty and does not begin with `-`; a number is 1 to 20 digits.
 pub fn read_words(alloc: Global, words: &[String]) -> Result<Job, WordFault>
@@ -81,6 +82,9 @@ fn read_solve(alloc: Global, arguments: &[String]) -> Result<Job, WordFault>
     let Some(name) = value_under(options, "--log") else {
         return Err(WordFault::Usage);
     };
+    let Some(trace) = flag_of(options) else {
+        return Err(WordFault::Usage);
+    };
     let log = match name {
         Some(name) => Some(Text::of(alloc, name)?),
         None => None,
@@ -89,6 +93,7 @@ fn read_solve(alloc: Global, arguments: &[String]) -> Result<Job, WordFault>
         file: Text::of(alloc, file.as_str())?,
         log,
         settings,
+        trace,
     })
 }
 
@@ -170,16 +175,42 @@ fn are_options(words: &[String]) -> bool
     ensures { result ≡ are_options (map string_bytes words.now) }
 {
     let mut rest = words;
-    while let [name, value, later @ ..] = rest {
-        if !is_option(name.as_str(), value.as_str()) {
-            return false;
+    while let [word, later @ ..] = rest {
+        rest = match later {
+            _ if is_flag(word.as_str()) => later,
+            [value, others @ ..] if is_option(word.as_str(), value.as_str()) => others,
+            _ => return false,
+        };
+    }
+    true
+}
+
+/// Whether a word is the flag of `solve`.
+fn is_flag(word: &str) -> bool
+    ensures { result ≡ is_flag word.now }
+{
+    word == "--trace"
+}
+
+/// Whether the flag is given among options; None where it is given more than once.
+fn flag_of(options: &[String]) -> Option<bool>
+    ensures { result ≡ flag_of (map string_bytes options.now) }
+{
+    let mut given = false;
+    let mut rest = options;
+    while let [word, later @ ..] = rest {
+        if is_flag(word.as_str()) {
+            if given {
+                return None;
+            }
+            given = true;
         }
         rest = later;
     }
-    rest.is_empty()
+    Some(given)
 }
 
-/// Whether two words are an option of `solve` and its value.
+/// Whether two words are another option of `solve` and its value.
 fn is_option(name: &str, value: &str) -> bool
     ensures { result ≡ is_option name.now value.now }
 {
@@ -198,14 +229,14 @@ fn value_under<'a>(words: &'a [String], name: &str) -> Option<Option<&'a str>>
 {
     let mut found = None;
     let mut rest = words;
-    while let [word, value, later @ ..] = rest {
+    while let [word, value, ..] = rest {
         if word.as_str() == name {
             if found.is_some() {
                 return None;
             }
             found = Some(value.as_str());
         }
-        rest = later;
+        rest = &rest[1..];
     }
     Some(found)
 }
@@ -222,11 +253,16 @@ fn is_file_word(word: &str) -> bool
 
 /// Law: what small command lines ask for, and that others ask for nothing.
 pub(crate) fn law_small_command_lines()
-    ensures plain { job_of (codes "solve" ∷ codes "f" ∷ []) ≡ Some (Solve (codes "f") None (settings_with 4 300 8 10000000 0)) }
+    ensures plain { job_of (codes "solve" ∷ codes "f" ∷ []) ≡ Some (Solve (codes "f") None (settings_with 4 300 8 10000000 0) false) }
     ensures options { job_of (codes "solve" ∷ codes "f" ∷ codes "--seed" ∷ codes "7" ∷ codes "--log" ∷ codes "g" ∷ codes "--limit" ∷ codes "030" ∷
-        codes "--share" ∷ codes "0" ∷ codes "--cores" ∷ codes "16" ∷ codes "--period" ∷ codes "5" ∷ []) ≡
-        Some (Solve (codes "f") (Some (codes "g")) (settings_with 16 5 0 30 7)) }
+        codes "--trace" ∷ codes "--share" ∷ codes "0" ∷ codes "--cores" ∷ codes "16" ∷ codes "--period" ∷ codes "5" ∷ []) ≡
+        Some (Solve (codes "f") (Some (codes "g")) (settings_with 16 5 0 30 7) true) }
     ensures twice { job_of (codes "solve" ∷ codes "f" ∷ codes "--log" ∷ codes "g" ∷ codes "--log" ∷ codes "h" ∷ []) ≡ None }
+    ensures flag { job_of (codes "solve" ∷ codes "f" ∷ codes "--trace" ∷ []) ≡
+        Some (Solve (codes "f") None (settings_with 4 300 8 10000000 0) true) }
+    ensures flag_twice { job_of (codes "solve" ∷ codes "f" ∷ codes "--trace" ∷ codes "--trace" ∷ []) ≡ None }
+    ensures flag_with_value { job_of (codes "solve" ∷ codes "f" ∷ codes "--trace" ∷ codes "x" ∷ []) ≡ None }
+    ensures flag_as_value { job_of (codes "solve" ∷ codes "f" ∷ codes "--log" ∷ codes "--trace" ∷ []) ≡ None }
     ensures valueless { job_of (codes "solve" ∷ codes "f" ∷ codes "--limit" ∷ []) ≡ None }
     ensures unknown { job_of (codes "solve" ∷ codes "f" ∷ codes "--speed" ∷ codes "7" ∷ []) ≡ None }
     ensures check { job_of (codes "check" ∷ codes "f" ∷ codes "p" ∷ []) ≡ Some (Check (codes "f") (codes "p")) }

@@ -1,9 +1,0 @@
-use Rattle.std.proofs.Common.{◌∙◌, arith}
-use Rattle.lit_base.proofs.ValueLines.{words_step}
-use Rattle.dp2ll.proofs.values.push_values.Goals as goal
-
--- one more word is written
-pub loop-index-preserved : goal.loop-index-preserved
-loop-index-preserved c =
-    words_step c.args.values.now c.loop-index.index c.args.end _ c.loop-index.text.items c.push_value.new.text.items (omega arith) (omega arith) c.in_ok-push_value.ensures
-    ∙ c.loop-index.invariant
