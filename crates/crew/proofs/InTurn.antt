@@ -4,6 +4,7 @@ use Rattle.std.specs.Prelude.{Some, option_map, map, slice_get}
 use Rattle.std.specs.List.{AllByRecursion, insert, remove}
 use Rattle.std.proofs.lemmas.Bool.{cond-true, cond-false, eq-eqb, eqb-true, false_from_ne_true}
 use Rattle.std.proofs.lemmas.Option.{same_Some, none-some, slice_get-map, slice_get-get_or, slice_get_within, get_or_from_slice_get}
+use Rattle.std.proofs.Math.Seq.{take-append_seam}
 use Rattle.std.proofs.lemmas.List.{length-map, take_more}
 use Rattle.std.proofs.lemmas.List.Elements.{All-from_recursion}
 use Rattle.lit_base.specs.Cnf.{Cnf}
@@ -20,7 +21,8 @@ use Rattle.solo_core.proofs.EndRules.{conflicts_counted}
 use Rattle.crew.specs.declared.searcher.Searcher.{Searcher}
 use Rattle.crew.specs.Era.{Member, stretched, mail_at, mails_in, mails_of, sheets_of, others, is_answer, is_over, largest_volume, next_member, after_era}
 use Rattle.crew.specs.Run.{members_at, mails_at}
-use Rattle.crew.specs.Turns.{IsEra, MayWork, HasWorked, AreEach, HaveWorked, core_begun, begun, at_rest}
+use Rattle.crew.specs.Groups.{AreEach}
+use Rattle.crew.specs.Turns.{IsEra, MayWork, HasWorked, HaveWorked, core_begun, begun, at_rest}
 use Rattle.crew.proofs.Members.{HaveFrames, IsCounted, goes_on, run_counted}
 use Rattle.crew.proofs.Mails.{mails_are}
 use Rattle.crew.proofs.RunSound.{run_sound, known_at, length-members}
@@ -46,6 +48,10 @@ pub put_back : {X : Type 0} (xs : List X) (i : ℕ) (x : X) → slice_get xs i �
 put_back [] i x at = absurd (none-some x at)
 put_back (y ∷ ys) zero x at = ap (λ z. z ∷ ys) (sym (same_Some y x at))
 put_back (y ∷ ys) (suc i) x at = ap (λ zs. y ∷ zs) (put_back ys i x at)
+
+-- what a slice of all items was changed to is what the list has
+pub rewritten : {X : Type 0} (items rest : List X) (n : ℕ) → n ≡ length items → take n (items ++ rest) ≡ items
+rewritten items rest n is = ap (λ m. take m (items ++ rest)) is ∙ take-append_seam items rest
 
 -- == the cores of an era ==
 
@@ -157,12 +163,12 @@ may_import cnf settings past i m era on at =
 
 -- == loops over the cores ==
 
-set_here : {X : Type 0} (xs : List X) (i : ℕ) (x : X) → i < length xs → slice_get (set xs i x) i ≡ Some x
+pub set_here : {X : Type 0} (xs : List X) (i : ℕ) (x : X) → i < length xs → slice_get (set xs i x) i ≡ Some x
 set_here [] i x within = absurd (omega (arith, within))
 set_here (y ∷ ys) zero x within = refl
 set_here (y ∷ ys) (suc i) x within = set_here ys i x (omega (arith, within))
 
-set_other : {X : Type 0} (xs : List X) (i j : ℕ) (x : X) → (i ≡ j → ⊥) → slice_get (set xs i x) j ≡ slice_get xs j
+pub set_other : {X : Type 0} (xs : List X) (i j : ℕ) (x : X) → (i ≡ j → ⊥) → slice_get (set xs i x) j ≡ slice_get xs j
 set_other [] i j x other = refl
 set_other (y ∷ ys) zero zero x other = absurd (other refl)
 set_other (y ∷ ys) zero (suc j) x other = refl
@@ -206,11 +212,12 @@ next_member_at cnf settings past i m at =
 
 -- a core that imported the others' mails is in the next era
 pub brought : (base quota : ℕ) (mails rest : List Mail) (m : Member) (before : Searcher) (after : CoreValue) → before ≡ at_rest m → others m.frame.core mails ≡ rest → after ≡ after_import rest before.core →
-    quota ≡ next_period base (mail_at m).volume (largest_volume mails) → (let s : Searcher = record { core = after; quota = quota } in s) ≡ begun (next_member base mails m)
+    quota ≡ next_period base (mail_at m).volume (largest_volume mails) → (let s : Searcher = record { number = before.number; core = after; quota = quota } in s) ≡ begun (next_member base mails m)
 brought base quota mails rest m before after is others_are imported period =
-    ap (λ core. let s : Searcher = record { core = core; quota = quota } in s)
+    ap (λ core. let s : Searcher = record { number = before.number; core = core; quota = quota } in s)
     (imported ∙ ap (λ (s : Searcher). after_import rest s.core) is ∙ ap (λ ms. after_import ms (at_rest m).core) (sym others_are))
-    ∙ ap (λ q. let s : Searcher = record { core = core_begun (next_member base mails m); quota = q } in s) period
+    ∙ ap (λ number. let s : Searcher = record { number = number; core = core_begun (next_member base mails m); quota = quota } in s) (ap (λ (s : Searcher). s.number) is)
+    ∙ ap (λ q. let s : Searcher = record { number = m.frame.core; core = core_begun (next_member base mails m); quota = q } in s) period
 
 -- the mail that is taken out for a core is its own
 pub own_mail : (cnf : Cnf) (settings : Settings) (past i : ℕ) (m : Member) (mails : List Mail) (own : Mail) → slice_get (members_at cnf settings past) i ≡ Some m → mails ≡ mails_at cnf settings past →

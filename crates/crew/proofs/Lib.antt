@@ -15,3 +15,5 @@ pub mod InTurn
 pub mod TraceRows
 pub mod LogSteps
 pub mod Turning
+pub mod Groups
+pub mod Sent

@@ -10,6 +10,7 @@ use Rattle.solo_core.specs.declared.sheet.Mail.{Mail}
 use Rattle.solo_core.specs.declared.sheet.Sheet.{Sheet}
 use Rattle.solo_core.specs.declared.sheet.Settings.{Settings}
 use Rattle.log_merge.specs.declared.stop.Stop.{Stop}
+use Rattle.log_merge.specs.declared.stop.Stop.TheVariants.{NoMemory as WantOfMemory}
 use Rattle.crew.specs.declared.logged.Logged.{Logged}
 use Rattle.crew.specs.declared.outcome.Outcome.{Outcome}
 use Rattle.crew.specs.declared.trace.TraceRow.{TraceRow}
@@ -22,7 +23,7 @@ use Rattle.crew.specs.Turns.{WritesLog, text_before, era_text, logged_of, logged
 use Rattle.crew.proofs.RunSound.{run_sound}
 use Rattle.crew.proofs.LastEra.{has_more, has_within, last_only, last_within}
 use Rattle.crew.proofs.Texts.{IsFront, front-same, text_of, era_more, text_is_front}
-use Rattle.crew.proofs.Writings.{fine, log_then, log_longer}
+use Rattle.crew.proofs.Writings.{fine, log_then, log_longer, log_refused}
 use Rattle.crew.proofs.InTurn.{mails_of_sheets}
 
 -- == over or not ==
@@ -146,3 +147,10 @@ module _ (cnf : Cnf) (settings : Settings) (past : ℕ) (log : Bool) (start mid 
       subst (λ (z : Stop). WritesLog log (log_text cnf settings) start after (Err z)) (sym same)
       (log_longer log (text_before cnf settings past ++ era_text cnf settings past) (log_text cnf settings) start after stop (grown_front cnf settings past is are has)
       (log_then log (text_before cnf settings past) (era_text cnf settings past) start mid after (Err stop) before era))
+
+  -- memory was refused before this era was written
+  pub refused_front : (result : Result Outcome Stop) → IsErrAnd result (λ y. y ≡ WantOfMemory) → WritesLog log (log_text cnf settings) start mid (without_outcome result)
+  refused_front (Ok outcome) same = absurd same
+  refused_front (Err y) same =
+      subst (λ (z : Stop). WritesLog log (log_text cnf settings) start mid (Err z)) (sym same)
+      (log_refused log (text_before cnf settings past) (log_text cnf settings) start mid (text_is_front cnf settings past is are has) before)

@@ -1,6 +1,9 @@
 -- What a run writes, and what its cores are in turn.
-use Rattle.std.specs.Prelude.{ℕ, ◌≡◌, ◌≢◌, ◌≤◌, Bool, true, false, List, [], length, Option, Some, None, slice_get, Result, Ok, Err, if◌then◌else◌}
+use Rattle.std.specs.Prelude.{ℕ, ◌≡◌, ◌≢◌, ◌≤◌, Bool, true, false, List, [], length, Option, Some, None, slice_get, Result, Ok, Err, OnOk, Vec, map, if◌then◌else◌}
+use Rattle.std.specs.Borrow.{MutBor}
+use Rattle.std.specs.declared.alloc.Global.{Global}
 use Rattle.lit_base.specs.Cnf.{Cnf, IsFormula}
+use Rattle.lit_base.specs.declared.NoMemory.{NoMemory}
 use Rattle.desk_io.specs.Told.{OutputsTold}
 use Rattle.solo_core.specs.State.{CoreValue}
 use Rattle.solo_core.specs.First.{AreInRange}
@@ -15,6 +18,7 @@ use Rattle.crew.specs.declared.outcome.Outcome.{Outcome}
 use Rattle.crew.specs.declared.searcher.Searcher.{Searcher}
 use Rattle.crew.specs.declared.logged.Logged.{Logged}
 use Rattle.crew.specs.declared.trace.TraceRow.{TraceRow}
+use Rattle.crew.specs.Groups.{AreEach}
 use Rattle.crew.specs.Era.{Member}
 use Rattle.crew.specs.Run.{members_at, HasEra}
 use Rattle.crew.specs.Log.{parts_before, parts_at, era_parts, joined, all_joined, numbering_at}
@@ -71,18 +75,18 @@ abbrev pub core_begun : Member → CoreValue
 core_begun m = record { frame = m.frame; state = m.state; ended = None; is_handed = false; is_broken = false }
 
 abbrev pub begun : Member → Searcher
-begun m = record { core = core_begun m; quota = m.quota }
+begun m = record { number = m.frame.core; core = core_begun m; quota = m.quota }
 
 -- after its stretch
 abbrev pub core_worked : Member → CoreValue
 core_worked m = after_stretch m.quota (core_begun m)
 
 abbrev pub worked : Member → Searcher
-worked m = record { core = core_worked m; quota = m.quota }
+worked m = record { number = m.frame.core; core = core_worked m; quota = m.quota }
 
 -- and after it gave its sheet
 abbrev pub at_rest : Member → Searcher
-at_rest m = record { core = after_sheet (core_worked m); quota = m.quota }
+at_rest m = record { number = m.frame.core; core = after_sheet (core_worked m); quota = m.quota }
 
 -- a core may make the stretch of its era, if it isn't broken
 pub record MayWork (searcher : Searcher) : Type 0 where
@@ -93,11 +97,6 @@ pub record MayWork (searcher : Searcher) : Type 0 where
 abbrev pub HasWorked : Searcher → Searcher → Type 0
 HasWorked before after = after.core.is_broken ≡ false → after ≡ record before { core = after_stretch before.quota before.core }
 
--- the items of two lists stand in this relation, place by place
-pub record AreEach {X Y : Type 0} (R : X → Y → Type 0) (xs : List X) (ys : List Y) : Type 0 where
-  pub same_length : length ys ≡ length xs
-  pub each : (i : ℕ) (x : X) (y : Y) → slice_get xs i ≡ Some x → slice_get ys i ≡ Some y → R x y
-
 -- each core of this era has made its stretch, or is broken
 abbrev pub HaveWorked : Cnf → Settings → ℕ → List Searcher → Type 0
 HaveWorked cnf settings past searchers = AreEach (λ m s. s.core.is_broken ≡ false → s ≡ worked m) (members_at cnf settings past) searchers
@@ -105,3 +104,14 @@ HaveWorked cnf settings past searchers = AreEach (λ m s. s.core.is_broken ≡ f
 -- what holds of the core at this place of this era
 abbrev pub AtMember : Cnf → Settings → ℕ → ℕ → (Member → Type 0) → Type 0
 AtMember cnf settings past i P = (m : Member) → slice_get (members_at cnf settings past) i ≡ Some m → P m
+
+-- cores that a call may change
+abbrev pub Cores : Type 0
+Cores = MutBor (Vec Searcher Global)
+
+-- a call with these conditions and these results, which is told how many eras are past, makes the stretches of each era of
+-- this run
+pub record Stretches (cnf : Cnf) (settings : Settings) (pre : Cores → ℕ → Type 0) (post : Cores → ℕ → Result (Unit {0}) NoMemory → Cores → Type 0) : Type 0 where
+  pub may : (cores : Cores) (past : ℕ) → IsEra cnf settings past → cores.now.items ≡ map begun (members_at cnf settings past) → pre cores past
+  pub worked : (before : Cores) (past : ℕ) (result : Result (Unit {0}) NoMemory) (after : Cores) → IsEra cnf settings past →
+      before.now.items ≡ map begun (members_at cnf settings past) → post before past result after → OnOk result (HaveWorked cnf settings past after.now.items)

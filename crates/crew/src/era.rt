@@ -3,14 +3,15 @@ ghost use Rattle.std.specs.Prelude.{◌≡◌, ◌+◌, ◌<◌, true, false, ma
 ghost use Rattle.crew.specs.Era.{is_over, largest_volume};
 ghost use Rattle.crew.specs.Run.{members_at, mails_at, sheets_at};
 ghost use Rattle.crew.specs.Outcome.{outcome_at};
-ghost use Rattle.crew.specs.Turns.{IsEra, AreEach, MayWork, HasWorked, HaveWorked, WritesLog, era_text, begun, at_rest, logged_before, logged_at, without_answer};
+ghost use Rattle.crew.specs.Groups.{AreEach};
+ghost use Rattle.crew.specs.Turns.{IsEra, MayWork, HasWorked, HaveWorked, WritesLog, era_text, begun, at_rest, logged_before, logged_at, without_answer};
 
 use crate::logged::{Logged, log_era};
 use crate::outcome::{Outcome, outcome_from};
 use crate::searcher::{Searcher, import_one, sheet_one, stretch_one};
 use crate::sheets::{is_over, largest_volume, mails_in};
 use crate::trace::add_rows;
-use desk_io::Outputs;
+use desk_io::{Gate, Outputs};
 use lit_base::{Formula, List, NoMemory};
 use log_merge::Stop;
 use solo_core::{Settings, Sheet};
@@ -18,27 +19,13 @@ use std::alloc::Global;
 use std::mem;
 
 /// Makes the stretch of each core, one after the other. A core to which memory is refused is broken.
-fn stretch_all(searchers: &mut [Searcher])
+pub(crate) fn stretch_all<G: Gate>(searchers: &mut [Searcher], gate: &G)
     requires { All MayWork searchers.old }
     ensures { AreEach HasWorked searchers.old searchers.new }
 {
     for i in 0..searchers.len() {
-        stretch_one(&mut searchers[i]);
+        stretch_one(&mut searchers[i], gate);
     }
-}
-
-/// The stretches of an era, in turn on the caller's thread.
-pub(crate) fn stretch_era(
-    searchers: &mut [Searcher],
-    _formula: &Formula,
-    _settings: &Settings,
-    _past: u32,
-)
-    requires era { IsEra _formula.now _settings.now _past }
-    requires begun { searchers.old ≡ map begun (members_at _formula.now _settings.now _past) }
-    ensures { HaveWorked _formula.now _settings.now _past searchers.new }
-{
-    stretch_all(searchers);
 }
 
 /// What each core leaves of an era, if none is broken.

@@ -4,22 +4,26 @@ ghost use Rattle.crew.specs.Era.{largest_volume, is_over, next_member, sheet_lef
 ghost use Rattle.crew.specs.Run.{mails_at};
 ghost use Rattle.crew.specs.Turns.{IsEra, AtMember, MayWork, HasWorked, worked, at_rest, begun};
 
+use desk_io::Gate;
 use lit_base::{Formula, NoMemory};
 use period_rule::next_period;
 use solo_core::{Core, Mail, Settings, Sheet};
 
-/// A core, and how many conflicts it may have in its period.
+/// A core, its number, and how many conflicts it may have in its period.
 #[derive(Drop)]
 pub(crate) struct Searcher {
+    pub(crate) number: u32,
     pub(crate) core: Core,
     pub(crate) quota: u32,
 }
 
-/// Makes the stretch of a core's period. Where memory is refused the core is broken, and says so in each later call.
-pub(crate) fn stretch_one(searcher: &mut Searcher)
+/// Passes the gate and makes the stretch of a core's period. Where memory is refused the core is broken, and says so in each
+/// later call.
+pub(crate) fn stretch_one<G: Gate>(searcher: &mut Searcher, gate: &G)
     requires { MayWork searcher.old }
     ensures { HasWorked searcher.old searcher.new }
 {
+    gate.pass(searcher.number, searcher.core.period());
     match searcher.core.stretch(searcher.quota) {
         Ok(_) | Err(NoMemory) => {}
     }

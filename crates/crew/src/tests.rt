@@ -6,14 +6,18 @@ use crate::{
     law_run_ends, law_square_is_given_up_at_the_limit, law_square_is_refuted,
     law_trace_tells_the_run, law_two_cores_go_on, law_two_cores_in_turn,
     law_two_cores_share_lemmas, law_unknown_where_all_are_spent, law_unsat_is_refuted,
-    law_winner_is_first, run_turns,
+    law_winner_is_first, run_joined, run_turns,
 };
-use desk_io::{MemoryOutputs, Port};
+use desk_io::{Gate, MemoryOutputs, NoGate, Port};
 use lit_base::{Clause, Formula, List, Lit, NoMemory};
 use solo_core::Settings;
 use std::alloc::Global;
+use std::hint::spin_loop;
+use std::marker::Sync;
 use std::process::Abort;
+use std::sync::atomic::{AtomicBool, Ordering};
 use std::test::Fail;
+use std::thread::Threads;
 
 /// The formula of these clauses, four of them at the most, over the first so many variables.
 fn formula(
@@ -306,4 +310,117 @@ fn laws_can_be_called(_rt: HostRuntime) {
     law_two_cores_in_turn();
     law_two_cores_go_on();
     law_two_cores_share_lemmas();
+}
+
+/// A gate that holds one core in a period until another has come to it there. It gives up after 100,000,000 turns, and notes
+/// that.
+#[derive(Drop)]
+struct HoldingGate {
+    held: u32,
+    awaited: u32,
+    period: u32,
+    has_come: AtomicBool,
+    gave_up: AtomicBool,
+}
+
+impl HoldingGate {
+    fn new(held: u32, awaited: u32, period: u32) -> HoldingGate {
+        HoldingGate {
+            held,
+            awaited,
+            period,
+            has_come: AtomicBool::new(false),
+            gave_up: AtomicBool::new(false),
+        }
+    }
+}
+
+impl Gate for HoldingGate {
+    fn pass(&self, core: u32, period: u32) {
+        if period == self.period && core == self.awaited {
+            self.has_come.store(true, Ordering::SeqCst);
+        }
+        if period == self.period && core == self.held {
+            for _ in 0..100_000_000u32 {
+                if self.has_come.load(Ordering::SeqCst) {
+                    return;
+                }
+                spin_loop();
+            }
+            self.gave_up.store(true, Ordering::SeqCst);
+        }
+    }
+}
+
+/// Runs the cores side by side and in turn, and compares what they leave.
+fn compare_joined<R: Abort + Threads + Sync, G: Gate>(
+    rt: &R,
+    alloc: Global,
+    formula: &Formula,
+    settings: &Settings,
+    workers: u32,
+    gate: &G,
+) -> Result<(), Fail>
+    requires settings { AreInRange settings.now }
+    requires workers { 1 ≤ workers }
+{
+    let mut wanted = outputs(alloc, 64, 1000)?;
+    let in_turn = outcome(rt, run_turns(alloc, formula, settings, true, &mut wanted))?;
+    let mut written = outputs(alloc, 64, 1000)?;
+    let run = run_joined(
+        rt,
+        alloc,
+        formula,
+        settings,
+        workers,
+        true,
+        &mut written,
+        gate,
+    );
+    let joined = outcome(rt, run)?;
+    assert_eq!(rt; joined.verdict, in_turn.verdict);
+    assert_eq!(rt; joined.eras, in_turn.eras);
+    assert_eq!(rt; joined.winner, in_turn.winner);
+    assert_eq!(rt; joined.lemmas, in_turn.lemmas);
+    assert_eq!(rt; joined.trace.as_slice(), in_turn.trace.as_slice());
+    assert_eq!(rt; joined.model.is_some(), in_turn.model.is_some());
+    if let (Some(one), Some(other)) = (&joined.model, &in_turn.model) {
+        assert_eq!(rt; one.values(), other.values());
+    }
+    assert_eq!(rt; written.kept(Port::Log), wanted.kept(Port::Log));
+    Ok(())
+}
+
+#[test]
+fn every_number_of_workers_leaves_the_same(rt: HostRuntime) -> Result<(), Fail> {
+    let alloc = rt.alloc();
+    let refuted = formula(&rt, alloc, 2, SQUARE)?;
+    let satisfied = formula(&rt, alloc, 3, &[&[1], &[-1, 2, 3], &[-1, 2, -3]])?;
+    for workers in 1..4u32 {
+        compare_joined(&rt, alloc, &refuted, &settings(3, 1, 10), workers, &NoGate)?;
+        compare_joined(
+            &rt,
+            alloc,
+            &satisfied,
+            &settings(2, 1, 10),
+            workers,
+            &NoGate,
+        )?;
+    }
+    Ok(())
+}
+
+#[test]
+fn each_of_two_cores_may_wait_for_the_other(rt: HostRuntime) -> Result<(), Fail> {
+    let alloc = rt.alloc();
+    let formula = formula(&rt, alloc, 2, SQUARE)?;
+    for held in 0..2u32 {
+        let gate = HoldingGate::new(held, 1 - held, 1);
+        compare_joined(&rt, alloc, &formula, &settings(2, 1, 10), 2, &gate)?;
+        assert!(rt;
+            !gate.gave_up.load(Ordering::SeqCst),
+            "a core waited for the other in vain"
+        );
+    }
+    Ok(())
 }

@@ -1,16 +1,17 @@
-ghost use Rattle.std.specs.Prelude.{◌≡◌, map, IfOk};
+ghost use Rattle.std.specs.Prelude.{◌≡◌, map, All, IfOk, OnOk};
 ghost use Rattle.lit_base.specs.Cnf.{IsFormula};
 ghost use Rattle.solo_core.specs.First.{AreInRange};
 ghost use Rattle.crew.specs.Run.{first_quota, members_at};
 ghost use Rattle.crew.specs.Log.{log_text};
 ghost use Rattle.crew.specs.Outcome.{outcome_of};
-ghost use Rattle.crew.specs.Turns.{without_outcome, WritesLog, begun};
+ghost use Rattle.crew.specs.Groups.{AreEach};
+ghost use Rattle.crew.specs.Turns.{MayWork, HasWorked, Stretches, without_outcome, WritesLog, begun};
 
-use crate::era::{end_era, stretch_era};
+use crate::era::{end_era, stretch_all};
 use crate::logged::Logged;
 use crate::outcome::Outcome;
 use crate::searcher::Searcher;
-use desk_io::Outputs;
+use desk_io::{NoGate, Outputs};
 use lit_base::{Formula, List, NoMemory};
 use log_merge::{Numbers, Stop};
 use solo_core::{Core, Settings};
@@ -33,27 +34,36 @@ pub fn run_turns<O: Outputs>(
     ensures writes { WritesLog log (log_text formula.now settings.now) (O.told outputs.old) (O.told outputs.new) (without_outcome result) }
 {
     let mut searchers = make_all(alloc, formula, settings)?;
-    eras_in_turn(
+    run_eras(
         alloc,
-        searchers.as_mut_slice(),
+        &mut searchers,
         formula,
         settings,
         log,
         outputs,
+        |searchers: &mut Vec<Searcher>, past: u32| -> Result<(), NoMemory>
+            requires { All MayWork searchers.old.items }
+            ensures { OnOk result (AreEach HasWorked searchers.old.items searchers.new.items) }
+        {
+            stretch_all(searchers.as_mut_slice(), &NoGate);
+            Ok(())
+        },
     )
 }
 
-/// The eras of a run, up to one that ends it, from the cores at its start.
-fn eras_in_turn<O: Outputs>(
+/// The eras of a run, up to one that ends it, from the cores at its start. `stretch` makes the stretches of an era, and is told how many are past.
+pub(crate) fn run_eras<O: Outputs, F: Fn(&mut Vec<Searcher>, u32) -> Result<(), NoMemory>>(
     alloc: Global,
-    searchers: &mut [Searcher],
+    searchers: &mut Vec<Searcher>,
     formula: &Formula,
     settings: &Settings,
     log: bool,
     outputs: &mut O,
+    stretch: F,
 ) -> Result<Outcome, Stop>
     requires settings { AreInRange settings.now }
-    requires begun { searchers.old ≡ map begun (members_at formula.now settings.now 0) }
+    requires begun { searchers.old.items ≡ map begun (members_at formula.now settings.now 0) }
+    requires stretches { Stretches formula.now settings.now (F.pre stretch) (F.post stretch) }
     ensures outcome { IfOk result (λ outcome. outcome ≡ outcome_of formula.now settings.now) }
     ensures writes { WritesLog log (log_text formula.now settings.now) (O.told outputs.old) (O.told outputs.new) (without_outcome result) }
 {
@@ -63,10 +73,10 @@ fn eras_in_turn<O: Outputs>(
         trace: List::new(alloc),
     };
     for past in 0..settings.limit {
-        stretch_era(searchers, formula, settings, past);
+        stretch(searchers, past)?;
         let ended = end_era(
             alloc,
-            searchers,
+            searchers.as_mut_slice(),
             &mut logged,
             log,
             formula,
@@ -82,7 +92,7 @@ fn eras_in_turn<O: Outputs>(
 }
 
 /// The cores at the start of the run.
-fn make_all(
+pub(crate) fn make_all(
     alloc: Global,
     formula: &Formula,
     settings: &Settings,
@@ -93,6 +103,7 @@ fn make_all(
     let mut searchers = Vec::with_capacity(alloc, settings.cores as usize)?;
     for number in 0..settings.cores {
         searchers.push(Searcher {
+            number,
             core: Core::make(alloc, formula, settings, number)?,
             quota: settings.period,
         })?;
