@@ -39,13 +39,13 @@ on_judged : (job : Option Job) (before after : Desk) (finding : Finding) (Q : Li
     → ServesJob job before after (Judged finding)
     → ((file proof : List ℕ) → ChecksProof file proof before after (Judged finding) → Q file proof) → OnCheck job Q
 on_judged None before after finding Q serves gives = absurd serves
-on_judged (Some (Solve file log settings trace)) before after finding Q serves gives = absurd serves.cause
+on_judged (Some (Solve file log settings trace workers)) before after finding Q serves gives = absurd serves.cause
 on_judged (Some (Check file proof)) before after finding Q serves gives = gives file proof serves
 
 -- `check` runs no core
 never_answers : (job : Option Job) (before after : Desk) → IsCheck job → ServesJob job before after (Answered Unknown) → ⊥
 never_answers None before after is serves = is
-never_answers (Some (Solve file log settings trace)) before after is serves = is
+never_answers (Some (Solve file log settings trace workers)) before after is serves = is
 never_answers (Some (Check file proof)) before after is serves = serves.cause
 
 -- where `check` ends with status 0 the proof was verified

@@ -72,19 +72,19 @@ solve_answers laws run file bytes log settings trace (Unwritten stop) status tol
 solve_answers laws run file bytes log settings trace NoMemory status told calm tells cause = absurd cause
 
 -- a run with a job that ended like this answers its file
-serves_answers : KnowsReading → (run : Run) (file bytes : List ℕ) (log : Option (List ℕ)) (settings : Settings) (trace : Bool) (how : Ending)
+serves_answers : KnowsReading → (run : Run) (file bytes : List ℕ) (log : Option (List ℕ)) (settings : Settings) (trace : Bool) (workers : ℕ) (how : Ending)
     → run.inputs_before.held Formula file ≡ Some bytes
     → ¬ Rose (run.inputs_before.at Formula).faults (run.inputs_after.at Formula).faults
-    → Serves (Some (Solve file log settings trace)) (desk_before run) (desk_after run) how
+    → Serves (Some (Solve file log settings trace workers)) (desk_before run) (desk_after run) how
     → Complains (complaint_of how) (status_of how) (run.before.at Complaint) (run.after.at Complaint) run.status
     → AnswersFile (formula_of bytes) log settings trace run
-serves_answers laws run file bytes log settings trace how told calm serves (inr (five, front)) = at_five run bytes log settings trace five
-serves_answers laws run file bytes log settings trace how told calm (inl solves) (inl (status, tells)) =
+serves_answers laws run file bytes log settings trace workers how told calm serves (inr (five, front)) = at_five run bytes log settings trace five
+serves_answers laws run file bytes log settings trace workers how told calm (inl solves) (inl (status, tells)) =
     solve_answers laws run file bytes log settings trace how status told calm tells solves.cause
-serves_answers laws run file bytes log settings trace how told calm (inr gives_up) (inl (status, tells)) =
+serves_answers laws run file bytes log settings trace workers how told calm (inr gives_up) (inl (status, tells)) =
     at_five run bytes log settings trace (status ∙ ap (λ (h : Ending). status_of h) gives_up.cause)
 
 -- what a run promises decides the answer of a told file
 pub complete : KnowsReading → (run : Run) → Headline run → IsComplete run
-complete laws run h file log settings trace bytes job told calm =
-    serves_answers laws run file bytes log settings trace h.how told calm (rw job at h.serves) h.complains
+complete laws run h file log settings trace workers bytes job told calm =
+    serves_answers laws run file bytes log settings trace workers h.how told calm (rw job at h.serves) h.complains

@@ -85,7 +85,7 @@ checked_texts file proof before between after NoMemory cause = absurd cause
 pub served_texts : (job : Option Job) (before after : Desk) (how : Ending) → Serves job before after how
     → (after.page ≡ before.page) ⊎ LeavesOwn job before after
 served_texts None before after how refuses = inl (ap (λ (d : Desk). d.page) refuses.untouched)
-served_texts (Some (Solve file log settings trace)) before after how (inl solves) = solved_texts file log settings trace before after how solves.cause
+served_texts (Some (Solve file log settings trace workers)) before after how (inl solves) = solved_texts file log settings trace before after how solves.cause
 served_texts (Some (Check file proof)) before after how (inl checks) = checked_texts file proof before checks.between after how checks.cause
 served_texts (Some job) before after how (inr gives_up) = inl (ap (λ (d : Desk). d.page) gives_up.untouched)
 
@@ -127,7 +127,7 @@ silent_check file proof before between after NoMemory silent cause = absurd caus
 pub silent_run : (job : Option Job) (before after : Desk) (how : Ending) → IsSilent (status_of how) → Serves job before after how
     → after.page ≡ before.page
 silent_run None before after how silent refuses = ap (λ (d : Desk). d.page) refuses.untouched
-silent_run (Some (Solve file log settings trace)) before after how silent (inl solves) =
+silent_run (Some (Solve file log settings trace workers)) before after how silent (inl solves) =
     silent_solve file log settings trace before after how silent solves.cause
 silent_run (Some (Check file proof)) before after how silent (inl checks) =
     silent_check file proof before checks.between after how silent checks.cause
@@ -144,8 +144,8 @@ pub unlogged : (job : Option Job) (before after : Desk) → HasNoLog job → (af
     → after.page.log ≡ before.page.log
 unlogged job before after none (inl same) = ap (λ (page : Page). page.log) same
 unlogged None before after none (inr own) = absurd own
-unlogged (Some (Solve file None settings trace)) before after none (inr own) =
+unlogged (Some (Solve file None settings trace workers)) before after none (inr own) =
     unlogged_texts (log_text own.cnf settings) (answer_of own.cnf settings trace) before.page after.page own.texts
-unlogged (Some (Solve file (Some name) settings trace)) before after none (inr own) = absurd none
+unlogged (Some (Solve file (Some name) settings trace workers)) before after none (inr own) = absurd none
 unlogged (Some (Check file proof)) before after none (inr own) =
     unlogged_texts (finding_text own.finding) (finding_text own.finding) before.page after.page own.texts

@@ -27,7 +27,7 @@ use Rattle.dp2ll.proofs.CheckSentences.{check_sentences}
 -- words that end with a usage fault are no command line
 usage_job : (job : Option Job) (before after : Desk) → Serves job before after Usage → job ≡ None
 usage_job None before after serves = refl
-usage_job (Some (Solve file log settings trace)) before after (inl solves) = absurd solves.cause
+usage_job (Some (Solve file log settings trace workers)) before after (inl solves) = absurd solves.cause
 usage_job (Some (Check file proof)) before after (inl checks) = absurd checks.cause
 usage_job (Some job) before after (inr gives_up) = let never : Usage ≡ NoMemory = gives_up.cause in cc
 
@@ -107,13 +107,13 @@ proof_begun file proof before between after NoMemory cause = absurd cause
 -- only the job's files are begun
 inputs_of : (job : Option Job) (before after : Desk) (how : Ending) → Serves job before after how → ReadsFile job before.inputs after.inputs
 inputs_of None before after how refuses = ap (λ (d : Desk). d.inputs) refuses.untouched
-inputs_of (Some (Solve file log settings trace)) before after how (inl solves) = inl solves.begun
+inputs_of (Some (Solve file log settings trace workers)) before after how (inl solves) = inl solves.begun
 inputs_of (Some (Check file proof)) before after how (inl checks) = inl (record {
   between = checks.between;
   first = checks.begun;
   second = proof_begun file proof before checks.between after how checks.cause;
 })
-inputs_of (Some (Solve file log settings trace)) before after how (inr gives_up) = inr (ap (λ (d : Desk). d.inputs) gives_up.untouched)
+inputs_of (Some (Solve file log settings trace workers)) before after how (inr gives_up) = inr (ap (λ (d : Desk). d.inputs) gives_up.untouched)
 inputs_of (Some (Check file proof)) before after how (inr gives_up) = inr (ap (λ (d : Desk). d.inputs) gives_up.untouched)
 
 -- statuses 2 to 5 come by their causes

@@ -28,13 +28,13 @@ on_answered : (job : Option Job) (before after : Desk) (verdict : Verdict) (Q : 
     → ((file : List ℕ) (log : Option (List ℕ)) (settings : Settings) (trace : Bool) → Solves file log settings trace before after (Answered verdict) → Q file log settings trace)
     → OnSolve job Q
 on_answered None before after verdict Q serves gives = absurd serves
-on_answered (Some (Solve file log settings trace)) before after verdict Q serves gives = gives file log settings trace serves
+on_answered (Some (Solve file log settings trace workers)) before after verdict Q serves gives = gives file log settings trace serves
 on_answered (Some (Check file proof)) before after verdict Q serves gives = absurd serves.cause
 
 -- `solve` judges no proof
 never_judges : (job : Option Job) (before after : Desk) → IsSolve job → ServesJob job before after (Judged Verified) → ⊥
 never_judges None before after is serves = is
-never_judges (Some (Solve file log settings trace)) before after is serves = serves.cause
+never_judges (Some (Solve file log settings trace workers)) before after is serves = serves.cause
 never_judges (Some (Check file proof)) before after is serves = is
 
 -- a status of a verdict comes by its cause

@@ -70,16 +70,17 @@ pub record Headline (run : Run) : Type 0 where
   pub serves : Serves run.job (desk_before run) (desk_after run) how
   pub complains : Complains (complaint_of how) (status_of how) (run.before.at Complaint) (run.after.at Complaint) run.status
 
--- the job is `solve` on a file, with a log or none and with settings, of which this holds
+-- the job is `solve` on a file, with a log or none, with settings, and with a trace or without, of which this holds; how many workers
+-- it is to have makes no difference
 abbrev pub OnSolve : Option Job → (List ℕ → Option (List ℕ) → Settings → Bool → Type 0) → Type 0
 OnSolve None P = ⊥
-OnSolve (Some (Solve file log settings trace)) P = P file log settings trace
+OnSolve (Some (Solve file log settings trace workers)) P = P file log settings trace
 OnSolve (Some (Check file proof)) P = ⊥
 
 -- the job is `check` of a formula's file and a proof's, of which this holds
 abbrev pub OnCheck : Option Job → (List ℕ → List ℕ → Type 0) → Type 0
 OnCheck None P = ⊥
-OnCheck (Some (Solve file log settings trace)) P = ⊥
+OnCheck (Some (Solve file log settings trace workers)) P = ⊥
 OnCheck (Some (Check file proof)) P = P file proof
 
 -- the job is `solve`
@@ -168,7 +169,7 @@ pub record ReadsTwo (file proof : List ℕ) (before after : InputsTold) : Type 0
 -- a slot is begun at most once, with the file that the job names for it, and nothing else of the inputs changes
 abbrev pub ReadsFile : Option Job → InputsTold → InputsTold → Type 0
 ReadsFile None before after = after ≡ before
-ReadsFile (Some (Solve file log settings trace)) before after = BeginsFormula file before after ⊎ (after ≡ before)
+ReadsFile (Some (Solve file log settings trace workers)) before after = BeginsFormula file before after ⊎ (after ≡ before)
 ReadsFile (Some (Check file proof)) before after = ReadsTwo file proof before after ⊎ (after ≡ before)
 
 -- the run ended for want of memory, with its line, or memory was refused to the complaint of another ending whose cause holds
@@ -203,14 +204,14 @@ pub record SaysOwn (file proof : List ℕ) (before after : Desk) : Type 0 where
 -- what a command leaves of its own texts
 abbrev pub LeavesOwn : Option Job → Desk → Desk → Type 0
 LeavesOwn None before after = ⊥
-LeavesOwn (Some (Solve file log settings trace)) before after = WritesOwn file log settings trace before after
+LeavesOwn (Some (Solve file log settings trace workers)) before after = WritesOwn file log settings trace before after
 LeavesOwn (Some (Check file proof)) before after = SaysOwn file proof before after
 
 -- the job names no log
 abbrev pub HasNoLog : Option Job → Type 0
 HasNoLog None = Unit {0}
-HasNoLog (Some (Solve file None settings trace)) = Unit {0}
-HasNoLog (Some (Solve file (Some name) settings trace)) = ⊥
+HasNoLog (Some (Solve file None settings trace workers)) = Unit {0}
+HasNoLog (Some (Solve file (Some name) settings trace workers)) = ⊥
 HasNoLog (Some (Check file proof)) = Unit {0}
 
 -- the statuses at which neither log nor answer is touched
@@ -247,7 +248,8 @@ AnswersFile (Err fault) log settings trace run = RefusesFile fault run ⊎ (run.
 -- where the file is told and no call on its slot failed, its bytes alone decide
 abbrev pub IsComplete : Run → Type 0
 IsComplete run =
-    (file : List ℕ) (log : Option (List ℕ)) (settings : Settings) (trace : Bool) (bytes : List ℕ) → run.job ≡ Some (Solve file log settings trace)
+    (file : List ℕ) (log : Option (List ℕ)) (settings : Settings) (trace : Bool) (workers : ℕ) (bytes : List ℕ)
+    → run.job ≡ Some (Solve file log settings trace workers)
     → run.inputs_before.held Formula file ≡ Some bytes
     → ¬ Rose (run.inputs_before.at Formula).faults (run.inputs_after.at Formula).faults
     → AnswersFile (formula_of bytes) log settings trace run

@@ -40,7 +40,7 @@ is_flag word = bytes_eq word (codes "--trace")
 -- the other options of `solve`: each is two words, its name and a value
 abbrev pub is_option : List ℕ → List ℕ → Bool
 is_option name value = (bytes_eq name (codes "--cores") || bytes_eq name (codes "--period") || bytes_eq name (codes "--share") || bytes_eq name (codes "--limit")
-    || bytes_eq name (codes "--seed") || bytes_eq name (codes "--log")) && is_file_word value
+    || bytes_eq name (codes "--seed") || bytes_eq name (codes "--workers") || bytes_eq name (codes "--log")) && is_file_word value
 
 -- the words are options, one after the other
 abbrev pub are_options : List (List ℕ) → Bool
@@ -98,9 +98,10 @@ settings_of options =
 
 -- == jobs ==
 
--- `solve` on this file, with these settings, this log and the flag, where they are given
-abbrev pub solve_with : List ℕ → Option Settings → Option (Option (List ℕ)) → Option Bool → Option Job
-solve_with file settings log trace = option_and_then (λ s. option_and_then (λ name. option_map (λ t. Solve file name s t) trace) log) settings
+-- `solve` on this file, with these settings, this log, the flag and so many workers, where they are given
+abbrev pub solve_with : List ℕ → Option Settings → Option (Option (List ℕ)) → Option Bool → Option ℕ → Option Job
+solve_with file settings log trace workers =
+    option_and_then (λ s. option_and_then (λ name. option_and_then (λ t. option_map (Solve file name s t) workers) trace) log) settings
 
 -- the arguments of `solve`: a file word, and then options
 abbrev pub solve_of : List (List ℕ) → Option Job
@@ -108,6 +109,7 @@ solve_of [] = None
 solve_of (file ∷ options) =
     if is_file_word file && are_options options
     then solve_with file (settings_of options) (once (values_under (codes "--log") options)) (flag_of options)
+    (number_under (codes "--workers") 0 16 4 options)
     else None
 
 -- the arguments of `check`: two file words, the formula's and the proof's
@@ -125,7 +127,7 @@ job_of (command ∷ arguments) =
 
 -- a job's settings are in their ranges
 abbrev pub IsInRange : Job → Type 0
-IsInRange (Solve file log settings trace) = AreInRange settings
+IsInRange (Solve file log settings trace workers) = AreInRange settings
 IsInRange (Check file proof) = Unit {0}
 
 -- reading the words gives their job, and a usage fault exactly where there is none

@@ -1,6 +1,7 @@
 pub mod Job
 pub mod Ending
 pub mod Running
+pub mod Cores
 pub mod Outcome
 pub mod Reading
 pub mod Judging

@@ -154,7 +154,7 @@ pub record GivesUp (before after : Desk) (how : Ending) : Type 0 where
 -- a command that begins its file ended like this by its cause; other words begin nothing
 abbrev pub ServesJob : Option Job → Desk → Desk → Ending → Type 0
 ServesJob None before after how = ⊥
-ServesJob (Some (Solve file log settings trace)) before after how = Solves file log settings trace before after how
+ServesJob (Some (Solve file log settings trace workers)) before after how = Solves file log settings trace before after how
 ServesJob (Some (Check file proof)) before after how = ChecksProof file proof before after how
 
 -- a run by its job: words that are no command line are refused

@@ -9,27 +9,35 @@ ghost use Rattle.dp2ll.specs.Answering.{Answers, AnswersPort, WritesTexts, page_
 ghost use Rattle.dp2ll.specs.Logging.{KeepsLog, log_told};
 ghost use Rattle.dp2ll.specs.Ending.{finding_text};
 ghost use Rattle.dp2ll.specs.Running.{without_outcome};
+ghost use Rattle.dp2ll.specs.Cores.{MayRun, RunsCores};
 
 use crate::backing::law_verdict_is_backed;
 use crate::ending::WriteStop;
 use crate::finding::Finding;
 use answer_text::write_answer;
-use crew::{Outcome, Stop, Verdict, law_model_satisfies_formula, law_winner_is_first, run_turns};
+use crew::{Outcome, Stop, Verdict, law_model_satisfies_formula, law_winner_is_first};
 use desk_io::{Outputs, Port, PortFault, write_whole};
 use lit_base::{Formula, Text};
 use solo_core::Settings;
 use std::alloc::Global;
 
-/// Runs the cores on a formula, with its log where one is named, and writes the answer, with the trace where it is asked for.
-pub(crate) fn answer<O: Outputs>(
+/// Runs the cores on a formula in this way, with its log where one is named, and writes the answer, with the trace where it is asked for.
+pub(crate) fn answer<
+    O: Outputs,
+    C: Fn(&Formula, &Settings, u32, bool, &mut O) -> Result<Outcome, Stop>,
+>(
     alloc: Global,
     formula: &Formula,
     settings: &Settings,
+    workers: u32,
     trace: bool,
     log: &Option<Text>,
     outputs: &mut O,
+    run_cores: &C,
 ) -> Result<Verdict, WriteStop>
-    requires { AreInRange settings.now }
+    requires range { AreInRange settings.now }
+    requires may { MayRun (C.pre run_cores.now) }
+    requires runs { RunsCores O.told (C.post run_cores.now) }
     ensures answers { Answers formula.now settings.now trace log.now (page_of (O.told outputs.old)) (page_of (O.told outputs.new)) result }
     ensures complaint { KeepsComplaint (O.told outputs.old) (O.told outputs.new) }
 {
@@ -38,20 +46,23 @@ pub(crate) fn answer<O: Outputs>(
     law_model_satisfies_formula();
     // for the checker alone: that the formula is one within the limits
     let _ = formula.variables();
-    let outcome = run_logged(alloc, formula, settings, log, outputs)?;
+    let outcome = run_logged(formula, settings, workers, log, outputs, run_cores)?;
     say_outcome(alloc, &outcome, settings, trace, outputs)?;
     Ok(outcome.verdict)
 }
 
 /// Creates the log, where one is named, and runs the cores, which write it.
-fn run_logged<O: Outputs>(
-    alloc: Global,
+fn run_logged<O: Outputs, C: Fn(&Formula, &Settings, u32, bool, &mut O) -> Result<Outcome, Stop>>(
     formula: &Formula,
     settings: &Settings,
+    workers: u32,
     log: &Option<Text>,
     outputs: &mut O,
+    run_cores: &C,
 ) -> Result<Outcome, WriteStop>
-    requires { AreInRange settings.now }
+    requires range { AreInRange settings.now }
+    requires may { MayRun (C.pre run_cores.now) }
+    requires runs { RunsCores O.told (C.post run_cores.now) }
     ensures outcome { IfOk result (λ outcome. outcome ≡ outcome_of formula.now settings.now) }
     ensures log { KeepsLog log.now (log_text formula.now settings.now) (log_told (O.told outputs.old)) (log_told (O.told outputs.new))
         (without_outcome result) }
@@ -59,7 +70,7 @@ fn run_logged<O: Outputs>(
     ensures complaint { KeepsComplaint (O.told outputs.old) (O.told outputs.new) }
 {
     create_log(outputs, log)?;
-    Ok(run_turns(alloc, formula, settings, log.is_some(), outputs)?)
+    Ok(run_cores(formula, settings, workers, log.is_some(), outputs)?)
 }
 
 /// Creates the log, empty, where one is named.

@@ -1,5 +1,6 @@
 ghost use Rattle.std.specs.Prelude.{map, string_bytes};
 ghost use Rattle.solo_core.specs.First.{AreInRange};
+ghost use Rattle.dp2ll.specs.Cores.{GivesRun, MayRun, RunsCores};
 ghost use Rattle.dp2ll.specs.Answering.{KeepsComplaint};
 ghost use Rattle.dp2ll.specs.Serving.{Solves, ChecksProof, Serves, desk, ending_of, checked_ending};
 ghost use Rattle.dp2ll.specs.Headline.{run_of, Headline, Sentences};
@@ -13,9 +14,9 @@ use crate::judge::judge_file;
 use crate::read::read_formula;
 use crate::words::{Job, WordFault, read_words};
 use cnf_text::{early_fault_stays, end_ends_input};
-use crew::Verdict;
+use crew::{Outcome, Stop, Verdict, run_joined, run_turns};
 use desk_io::{Gate, Inputs, Outputs};
-use lit_base::{Text, law_checked_proof_refutes};
+use lit_base::{Formula, Text, law_checked_proof_refutes};
 use lrat_check::law_fault_refuses;
 use solo_core::Settings;
 use std::alloc::Global;
@@ -24,7 +25,8 @@ use std::thread::Threads;
 
 /// Runs the program on the words after its name, and gives its exit status.
 ///
-/// It does what `run_still` does; the runtime and the gate serve cores that run side by side, of which there are none yet.
+/// It does what `run_still` does, and with workers the cores run side by side, on threads of `rt`; `gate` is called before
+/// each stretch of a core.
 pub fn run<R: Threads + Wait + Sync, I: Inputs, O: Outputs, G: Gate>(
     rt: &R,
     alloc: Global,
@@ -36,12 +38,22 @@ pub fn run<R: Threads + Wait + Sync, I: Inputs, O: Outputs, G: Gate>(
     ensures headline { Headline (run_of words.now (I.told inputs.old) (I.told inputs.new) (O.told outputs.old) (O.told outputs.new) result) }
     ensures sentences { Sentences (run_of words.now (I.told inputs.old) (I.told inputs.new) (O.told outputs.old) (O.told outputs.new) result) }
 {
-    let _ = rt;
-    let _ = gate;
-    run_still(alloc, words, inputs, outputs)
+    run_with(
+        alloc,
+        words,
+        inputs,
+        outputs,
+        &|formula: &Formula, settings: &Settings, workers: u32, log: bool, outputs: &mut O| -> Result<
+            Outcome,
+            Stop,
+        >
+            requires { AreInRange settings.now }
+        { run_side_by_side(rt, alloc, formula, settings, workers, log, outputs, gate) },
+    )
 }
 
-/// Runs the program on the words after its name, and gives its exit status; it waits for nobody.
+/// Runs the program on the words after its name, and gives its exit status; it waits for nobody, and for any number of workers
+/// the cores run in turn.
 ///
 /// `solve` gives status 10: a model was printed; 20: there is none, and the proof was written where a
 /// log is named; 0: unknown, since each core had all conflicts that it may have. `check` gives 0: the
@@ -57,20 +69,64 @@ pub fn run_still<I: Inputs, O: Outputs>(
     ensures headline { Headline (run_of words.now (I.told inputs.old) (I.told inputs.new) (O.told outputs.old) (O.told outputs.new) result) }
     ensures sentences { Sentences (run_of words.now (I.told inputs.old) (I.told inputs.new) (O.told outputs.old) (O.told outputs.new) result) }
 {
+    run_with(
+        alloc,
+        words,
+        inputs,
+        outputs,
+        &|formula: &Formula, settings: &Settings, _workers: u32, log: bool, outputs: &mut O| {
+            run_turns(alloc, formula, settings, log, outputs)
+        },
+    )
+}
+
+/// Runs the program, and the cores in this way.
+fn run_with<
+    I: Inputs,
+    O: Outputs,
+    C: Fn(&Formula, &Settings, u32, bool, &mut O) -> Result<Outcome, Stop>,
+>(alloc: Global, words: &[String], inputs: &mut I, outputs: &mut O, run_cores: &C) -> u8
+    requires may { MayRun (C.pre run_cores.now) }
+    requires runs { RunsCores O.told (C.post run_cores.now) }
+    ensures headline { Headline (run_of words.now (I.told inputs.old) (I.told inputs.new) (O.told outputs.old) (O.told outputs.new) result) }
+    ensures sentences { Sentences (run_of words.now (I.told inputs.old) (I.told inputs.new) (O.told outputs.old) (O.told outputs.new) result) }
+{
     early_fault_stays();
     end_ends_input();
     law_fault_refuses();
-    let ending = serve(alloc, words, inputs, outputs);
+    let ending = serve(alloc, words, inputs, outputs, run_cores);
     complain(alloc, outputs, &ending)
 }
 
-/// Serves the words, without the complaint.
-fn serve<I: Inputs, O: Outputs>(
+/// Runs the cores side by side on so many workers, or in turn where there are none.
+fn run_side_by_side<R: Threads + Sync, O: Outputs, G: Gate>(
+    rt: &R,
     alloc: Global,
-    words: &[String],
-    inputs: &mut I,
+    formula: &Formula,
+    settings: &Settings,
+    workers: u32,
+    log: bool,
     outputs: &mut O,
-) -> Ending
+    gate: &G,
+) -> Result<Outcome, Stop>
+    requires { AreInRange settings.now }
+    ensures { GivesRun formula.now settings.now log (O.told outputs.old) (O.told outputs.new) result }
+{
+    if workers == 0 {
+        run_turns(alloc, formula, settings, log, outputs)
+    } else {
+        run_joined(rt, alloc, formula, settings, workers, log, outputs, gate)
+    }
+}
+
+/// Serves the words, without the complaint.
+fn serve<
+    I: Inputs,
+    O: Outputs,
+    C: Fn(&Formula, &Settings, u32, bool, &mut O) -> Result<Outcome, Stop>,
+>(alloc: Global, words: &[String], inputs: &mut I, outputs: &mut O, run_cores: &C) -> Ending
+    requires may { MayRun (C.pre run_cores.now) }
+    requires runs { RunsCores O.told (C.post run_cores.now) }
     ensures serves { Serves (job_of (map string_bytes words.now)) (desk (I.told inputs.old) (O.told outputs.old))
         (desk (I.told inputs.new) (O.told outputs.new)) result }
     ensures complaint { KeepsComplaint (O.told outputs.old) (O.told outputs.new) }
@@ -82,6 +138,7 @@ fn serve<I: Inputs, O: Outputs>(
                 log,
                 settings,
                 trace,
+                workers,
             },
         ) => {
             match solve(
@@ -90,8 +147,10 @@ fn serve<I: Inputs, O: Outputs>(
                 &log,
                 &settings,
                 trace,
+                workers,
                 inputs,
                 outputs,
+                run_cores,
             ) {
                 Ok(verdict) => Ending::Answered(verdict),
                 Err(ending) => ending,
@@ -109,22 +168,32 @@ fn serve<I: Inputs, O: Outputs>(
 }
 
 /// Reads the file as a formula, runs the cores on it, and writes log and answer.
-fn solve<I: Inputs, O: Outputs>(
+fn solve<
+    I: Inputs,
+    O: Outputs,
+    C: Fn(&Formula, &Settings, u32, bool, &mut O) -> Result<Outcome, Stop>,
+>(
     alloc: Global,
     file: &str,
     log: &Option<Text>,
     settings: &Settings,
     trace: bool,
+    workers: u32,
     inputs: &mut I,
     outputs: &mut O,
+    run_cores: &C,
 ) -> Result<Verdict, Ending>
-    requires { AreInRange settings.now }
+    requires range { AreInRange settings.now }
+    requires may { MayRun (C.pre run_cores.now) }
+    requires runs { RunsCores O.told (C.post run_cores.now) }
     ensures solves { Solves file.now log.now settings.now trace (desk (I.told inputs.old) (O.told outputs.old))
         (desk (I.told inputs.new) (O.told outputs.new)) (ending_of result) }
     ensures complaint { KeepsComplaint (O.told outputs.old) (O.told outputs.new) }
 {
     let formula = read_formula(alloc, file, inputs)?;
-    Ok(answer(alloc, &formula, settings, trace, log, outputs)?)
+    Ok(answer(
+        alloc, &formula, settings, workers, trace, log, outputs, run_cores,
+    )?)
 }
 
 /// Reads the file as a formula, judges the proof in the other file, and writes what it found.

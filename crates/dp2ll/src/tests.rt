@@ -11,6 +11,7 @@ use std::test::Fail;
 use std::thread::Threads;
 
 mod check;
+mod workers;
 
 /// How many bytes a call reads or writes at most.
 const GRAINS: [usize; 4] = [1, 2, 3, 4096];
@@ -143,15 +144,22 @@ fn run_on<R: Threads + Wait + Sync>(
     run_over(rt, alloc, words, &[("f", text)], grain, failing)
 }
 
-/// Runs the words over files of these names and bytes.
-fn run_over<R: Threads + Wait + Sync>(
-    rt: &R,
+/// What a run is given: the words, and files and ports in memory.
+#[derive(Drop)]
+struct Desk {
+    words: Vec<String>,
+    inputs: Counted,
+    outputs: MemoryOutputs,
+}
+
+/// The words, over files of these names and bytes.
+fn desk_of(
     alloc: Global,
     words: &[&str],
     held: &[(&str, &[u8])],
     grain: usize,
     failing: Failing,
-) -> Result<Left, Fail> {
+) -> Result<Desk, Fail> {
     let mut files = List::new(alloc);
     for file in held {
         files.push((
@@ -174,27 +182,42 @@ fn run_over<R: Threads + Wait + Sync>(
             (Port::Complaint, failing.complaint),
         ],
     )?;
-    let mut inputs = Counted {
-        files: MemoryInputs::new(files, grain.max(1), reads),
-        reads: 0,
-    };
-    let mut outputs = MemoryOutputs::new(alloc, grain.max(1), writes);
     let mut all = Vec::new(alloc);
     for word in words {
         all.push(String::from_str(alloc, word)?)?;
     }
+    Ok(Desk {
+        words: all,
+        inputs: Counted {
+            files: MemoryInputs::new(files, grain.max(1), reads),
+            reads: 0,
+        },
+        outputs: MemoryOutputs::new(alloc, grain.max(1), writes),
+    })
+}
+
+/// Runs the words over files of these names and bytes.
+fn run_over<R: Threads + Wait + Sync>(
+    rt: &R,
+    alloc: Global,
+    words: &[&str],
+    held: &[(&str, &[u8])],
+    grain: usize,
+    failing: Failing,
+) -> Result<Left, Fail> {
+    let mut desk = desk_of(alloc, words, held, grain, failing)?;
     let status = run(
         rt,
         alloc,
-        all.as_slice(),
-        &mut inputs,
-        &mut outputs,
+        desk.words.as_slice(),
+        &mut desk.inputs,
+        &mut desk.outputs,
         &NoGate,
     );
     Ok(Left {
         status,
-        reads: inputs.reads,
-        outputs,
+        reads: desk.inputs.reads,
+        outputs: desk.outputs,
     })
 }
 
@@ -447,78 +470,6 @@ fn a_file_gives_the_same_for_every_cutting(rt: HostRuntime) -> Result<(), Fail> 
     Ok(())
 }
 
-/// A run of the four clauses of two variables with a log, and what it leaves.
-struct Told {
-    words: &'static [&'static str],
-    status: u8,
-    answer: &'static [u8],
-    log: &'static [u8],
-}
-
-static TOLD: [Told; 4] = [
-    Told {
-        words: &[
-            "solve", "f", "--cores", "2", "--period", "1", "--limit", "10", "--trace", "--log", "g",
-        ],
-        status: 20,
-        answer: b"c core 0 phase 0 unit 100 weight 1 halve 256 noise 0 share 8
-c core 1 phase 1 unit 100 weight 1 halve 256 noise 0 share 8
-c era 1 0 1 1 1 1
-c era 1 1 1 1 1 1
-c era 2 0 1 2 0 0
-c era 2 1 1 2 0 0
-c winner 0
-s UNSATISFIABLE
-",
-        log: b"5 1 0 1 2 0\n6 -1 0 3 4 0\n7 0 5 6 0\n",
-    },
-    Told {
-        words: &[
-            "solve", "f", "--cores", "2", "--period", "1", "--limit", "10", "--share", "0",
-            "--log", "g",
-        ],
-        status: 20,
-        answer: b"s UNSATISFIABLE\n",
-        log: b"5 1 0 1 2 0\n6 -1 0 3 4 0\n7 0 5 3 4 0\n",
-    },
-    Told {
-        words: &["solve", "f", "--limit", "1", "--cores", "1", "--log", "g"],
-        status: 0,
-        answer: b"s UNKNOWN\n",
-        log: b"5 1 0 1 2 0\n",
-    },
-    Told {
-        words: &[
-            "solve", "f", "--trace", "--cores", "1", "--limit", "1", "--log", "g",
-        ],
-        status: 0,
-        answer: b"c core 0 phase 0 unit 100 weight 1 halve 256 noise 0 share 8
-c era 1 0 1 1 1 0
-c winner none
-s UNKNOWN
-",
-        log: b"5 1 0 1 2 0\n",
-    },
-];
-
-/// With `--trace` the answer begins with the cores, what each did in each era, and the winner. Two cores share their lemmas,
-/// but for a share of 0. With a limit of one conflict the formula is given up behind its first lemma.
-#[test]
-fn runs_of_few_conflicts(rt: HostRuntime) -> Result<(), Fail> {
-    for row in &TOLD {
-        let wanted = Wanted {
-            status: row.status,
-            answer: row.answer,
-            log: row.log,
-            complaint: b"",
-            names: 1,
-            reads: 2,
-        };
-        run_on(&rt, rt.alloc(), row.words, SQUARE, 4096, NONE)?.is(&rt, &wanted, "trace", 4096);
-    }
-    Ok(())
-}
-
 /// The place of "two units clash".
 const CLASH: usize = 4;
 
@@ -702,7 +653,7 @@ static REFUSALS: [Refusal; 7] = [
 ];
 
 /// Words that are no command line.
-static FAULTY: [&[&str]; 37] = [
+static FAULTY: [&[&str]; 40] = [
     &[],
     &["solve"],
     &["solve", ""],
@@ -728,6 +679,9 @@ static FAULTY: [&[&str]; 37] = [
     &["solve", "f", "--period", "0"],
     &["solve", "f", "--share", "65"],
     &["solve", "f", "--seed", "18446744073709551616"],
+    &["solve", "f", "--workers", "17"],
+    &["solve", "f", "--workers"],
+    &["solve", "f", "--workers", "1", "--workers", "1"],
     &["solve", "f", "--trace", "--trace"],
     &["solve", "f", "--trace=1"],
     &["solve", "f", "--trace", "x"],

@@ -14,12 +14,14 @@ const DIGITS: usize = 20;
 #[derive(Debug, Drop)]
 pub enum Job {
     /// `solve FILE`: decide the formula in the file with these settings, write the log to the file that `--log`
-    /// names, and with `--trace` begin the answer with what the cores did.
+    /// names, and with `--trace` begin the answer with what the cores did. So many workers run the cores side by side; with
+    /// 0 they run in turn.
     Solve {
         file: Text,
         log: Option<Text>,
         settings: Settings,
         trace: bool,
+        workers: u32,
     },
     /// `check FILE PROOF`: judge the proof in the second file against the formula in the first.
     Check {
@@ -50,8 +52,8 @@ impl From<NoMemory> for WordFault {
 
 /// The job that the words after the program's name ask for: `check` and two file words, or `solve`, one file word, and then
 /// options in any order, each at most once: `--cores` from 1 to 16 (4 without it), `--period` from 1 to 100,000 (300),
-/// `--share` from 0 to 64 (8), `--limit` from 1 to 1,000,000,000 (10,000,000), `--seed` from 0 to 2^64 - 1 (0), `--log`
-/// with a file word, and the flag `--trace`.
+/// `--share` from 0 to 64 (8), `--limit` from 1 to 1,000,000,000 (10,000,000), `--seed` from 0 to 2^64 - 1 (0),
+/// `--workers` from 0 to 16 (4), `--log` with a file word, and the flag `--trace`.
 ///
 /// A file word is not empty and does not begin with `-`; a number is 1 to 20 digits.
 pub fn read_words(alloc: Global, words: &[String]) -> Result<Job, WordFault>
@@ -85,6 +87,9 @@ fn read_solve(alloc: Global, arguments: &[String]) -> Result<Job, WordFault>
     let Some(trace) = flag_of(options) else {
         return Err(WordFault::Usage);
     };
+    let Some(workers) = number_under(options, "--workers", 0, 16, 4) else {
+        return Err(WordFault::Usage);
+    };
     let log = match name {
         Some(name) => Some(Text::of(alloc, name)?),
         None => None,
@@ -94,6 +99,7 @@ fn read_solve(alloc: Global, arguments: &[String]) -> Result<Job, WordFault>
         log,
         settings,
         trace,
+        workers: workers as u32,
     })
 }
 
@@ -219,6 +225,7 @@ fn is_option(name: &str, value: &str) -> bool
         || name == "--share"
         || name == "--limit"
         || name == "--seed"
+        || name == "--workers"
         || name == "--log")
         && is_file_word(value)
 }
@@ -253,13 +260,13 @@ fn is_file_word(word: &str) -> bool
 
 /// Law: what small command lines ask for, and that others ask for nothing.
 pub(crate) fn law_small_command_lines()
-    ensures plain { job_of (codes "solve" ∷ codes "f" ∷ []) ≡ Some (Solve (codes "f") None (settings_with 4 300 8 10000000 0) false) }
+    ensures plain { job_of (codes "solve" ∷ codes "f" ∷ []) ≡ Some (Solve (codes "f") None (settings_with 4 300 8 10000000 0) false 4) }
     ensures options { job_of (codes "solve" ∷ codes "f" ∷ codes "--seed" ∷ codes "7" ∷ codes "--log" ∷ codes "g" ∷ codes "--limit" ∷ codes "030" ∷
-        codes "--trace" ∷ codes "--share" ∷ codes "0" ∷ codes "--cores" ∷ codes "16" ∷ codes "--period" ∷ codes "5" ∷ []) ≡
-        Some (Solve (codes "f") (Some (codes "g")) (settings_with 16 5 0 30 7) true) }
+        codes "--trace" ∷ codes "--workers" ∷ codes "0" ∷ codes "--share" ∷ codes "0" ∷ codes "--cores" ∷ codes "16" ∷ codes "--period" ∷ codes "5" ∷ []) ≡
+        Some (Solve (codes "f") (Some (codes "g")) (settings_with 16 5 0 30 7) true 0) }
     ensures twice { job_of (codes "solve" ∷ codes "f" ∷ codes "--log" ∷ codes "g" ∷ codes "--log" ∷ codes "h" ∷ []) ≡ None }
     ensures flag { job_of (codes "solve" ∷ codes "f" ∷ codes "--trace" ∷ []) ≡
-        Some (Solve (codes "f") None (settings_with 4 300 8 10000000 0) true) }
+        Some (Solve (codes "f") None (settings_with 4 300 8 10000000 0) true 4) }
     ensures flag_twice { job_of (codes "solve" ∷ codes "f" ∷ codes "--trace" ∷ codes "--trace" ∷ []) ≡ None }
     ensures flag_with_value { job_of (codes "solve" ∷ codes "f" ∷ codes "--trace" ∷ codes "x" ∷ []) ≡ None }
     ensures flag_as_value { job_of (codes "solve" ∷ codes "f" ∷ codes "--log" ∷ codes "--trace" ∷ []) ≡ None }

@@ -12,7 +12,7 @@ returns-clause-answers g c =
     let same = c.in_ok-outcome.ensures.outcome in
     record {
       outcome = sym (ap (λ (o : Outcome). o.verdict) same);
-      backed = c.law_verdict_is_backed.ensures c.args.formula.now c.args.settings.now c.variables.ensures.formula c.requires;
+      backed = c.law_verdict_is_backed.ensures c.args.formula.now c.args.settings.now c.variables.ensures.formula c.requires.range;
       texts = both_written c.args.log.now (log_text c.args.formula.now c.args.settings.now) (answer_of c.args.formula.now c.args.settings.now c.args.trace)
           (page_of (g.O.Outputs.told c.args.outputs.now)) (page_of (g.O.Outputs.told c.run_logged.new.outputs))
           (page_of (g.O.Outputs.told c.say_outcome.new.outputs)) c.in_ok-outcome.ensures.log c.in_ok-outcome.ensures.answer

@@ -1,6 +1,6 @@
 use Rattle.std.proofs.Common.{rules}
 use Rattle.dp2ll.proofs.Sentences.{sentences_of}
-use Rattle.dp2ll.proofs.run.run_still.Goals as goal
+use Rattle.dp2ll.proofs.run.run_with.Goals as goal
 
 -- the sentences follow from the record
 pub returns-clause-sentences : goal.returns-clause-sentences
