@@ -8,10 +8,11 @@ Families: uniform random three-literal formulas at the threshold of 4.26 clauses
 parities along two chains, and the equivalence of two adders and of two multipliers. Each file has the verdict that is
 expected of it; a solver that gives another is reported, and the script then ends with 1. Solvers: dp2ll, with one core or
 with so many that run in turn, and minisat -no-pre and cadical where they are on the path. The programs run in turn, N times,
-with a limit of S seconds a file. For each file stand the verdict, the least processor seconds, the conflicts (of dp2ll by the
-lines of its log, in a run of its own that isn't timed), the conflicts a second and the peak memory (of which some 16 MB are
-this script's own); at the end the geometric means over the files that every solver answered. `--out` keeps all figures, and
-`--against` compares dp2ll's seconds and conflicts with those of an earlier run.
+with a limit of S seconds a file. For each file stand the verdict, the least processor seconds, the conflicts (of dp2ll those of
+the core that wins, by the trace of a run of its own that isn't timed), the conflicts a second (of dp2ll those of all cores)
+and the peak memory (of which some 16 MB are this script's own); at the end the geometric means over the files that every
+solver answered. `--out` keeps all figures, and `--against` compares dp2ll's seconds and its winner's conflicts with those of
+an earlier run, as of one core with four: conflicts are a fact of the rules, not of the machine.
 """
 import argparse
 import itertools
@@ -189,15 +190,20 @@ def timed(command, seconds):
         return None if code == 124 else code, took, usage.ru_maxrss / 1024, text.read().decode(errors='replace')
 
 
-def conflicts_of(program, text, log):
-    if program == 'dp2ll':
-        with open(log, 'rb') as lines:
-            return sum(1 for _ in lines)
+def conflicts_of(text):
     found = re.search(r'conflicts\s*:\s*(\d+)', text)
     return int(found.group(1)) if found else None
 
 
-def measure(programs, path, log, runs, seconds):
+def traced_conflicts(text):
+    """The conflicts of the core that wins, None where none does, and of all cores, by the trace of a run."""
+    rows = [[int(word) for word in line.split()[3:5]] for line in text.splitlines() if line.startswith('c era ')]
+    winner = re.search(r'^c winner (\d+)$', text, re.M)
+    of_winner = winner and sum(count for core, count in rows if core == int(winner.group(1)))
+    return of_winner, sum(count for _, count in rows)
+
+
+def measure(programs, path, runs, seconds):
     """The figures of each program on one file: least seconds of the runs, which go round all programs."""
     best = {}
     for _ in range(runs):
@@ -210,12 +216,12 @@ def measure(programs, path, log, runs, seconds):
             figures['memory'] = max(figures['memory'], memory)
             figures['verdict'] = 'TIME' if status is None else VERDICTS.get(status, 'status %d' % status)
             if program != 'dp2ll':
-                figures['conflicts'] = conflicts_of(program, text, log)
+                figures['conflicts'] = figures['worked'] = conflicts_of(text)
     ours = best['dp2ll']
     if ours['verdict'] != 'TIME':
         _, words, options = programs[0]
-        timed(words + [path] + options + ['--log', log], seconds * 2)
-        ours['conflicts'] = conflicts_of('dp2ll', '', log) if os.path.exists(log) else None
+        text = timed(words + [path] + options + ['--trace'], seconds * 2)[3]
+        ours['conflicts'], ours['worked'] = traced_conflicts(text)
     return best
 
 
@@ -227,7 +233,7 @@ def report(name, expected, figures):
     wrong = []
     for program, row in figures.items():
         conflicts = row.get('conflicts')
-        rate = conflicts / row['seconds'] if conflicts else None
+        rate = row['worked'] / row['seconds'] if row.get('worked') else None
         print('%-18s %-16s %-8s %8.3f s %9s conflicts %9s a second %7.1f MB'
               % (name, program, row['verdict'], row['seconds'], '-' if conflicts is None else conflicts,
                  '-' if rate is None else '%.0f' % rate, row['memory']))
@@ -242,7 +248,7 @@ def summary(kept, programs):
     print('\ngeometric means over the %d files of %d that all answered' % (len(answered), len(kept)))
     for program, _, _ in programs:
         rows = [each[program] for each in answered]
-        rates = [row['conflicts'] / row['seconds'] for row in rows if row.get('conflicts')]
+        rates = [row['worked'] / row['seconds'] for row in rows if row.get('worked')]
         print('%-16s %8.3f s, %.0f conflicts, %.0f a second, %d answered of all'
               % (program, mean([row['seconds'] for row in rows]),
                  mean([row['conflicts'] for row in rows if row.get('conflicts')]), mean(rates),
@@ -255,8 +261,12 @@ def compare(kept, path):
     both = [(kept[name]['dp2ll'], before[name]['dp2ll']) for name in kept
             if name in before and kept[name]['dp2ll']['verdict'] == before[name]['dp2ll']['verdict'] != 'TIME']
     same = sum(now.get('conflicts') == then.get('conflicts') for now, then in both)
+    searched = [(now['conflicts'], then['conflicts']) for now, then in both if now.get('conflicts') and then.get('conflicts')]
+    fewer = sum(now < then for now, then in searched)
     print('against %s: %d files, %d with the same conflicts, seconds now by then %.2f (geometric mean)'
           % (path, len(both), same, mean([now['seconds'] / max(then['seconds'], 1e-4) for now, then in both])))
+    print('conflicts of the winner now by then %.2f (geometric mean of %d files; fewer in %d of them)'
+          % (mean([now / then for now, then in searched]), len(searched), fewer))
 
 
 def main():
@@ -278,12 +288,11 @@ def main():
         for name, make, verdict in files():
             if args.only not in name:
                 continue
-            path, log = os.path.join(folder, name + '.cnf'), os.path.join(folder, 'log')
+            path = os.path.join(folder, name + '.cnf')
             write_formula(path, make())
-            kept[name] = measure(programs, path, log, args.runs, args.seconds)
+            kept[name] = measure(programs, path, args.runs, args.seconds)
             wrong += report(name, {'S': 'SAT', 'U': 'UNSAT'}[verdict], kept[name])
-            if os.path.exists(log):
-                os.remove(log)
+            os.remove(path)
     finally:
         shutil.rmtree(folder)
     summary(kept, programs)

@@ -1,0 +1,118 @@
+#!/usr/bin/env python3
+"""Measures what workers give: the wall time of the same run of four cores with 1, 2 and 4 workers.
+
+    bench/speedup.py [--program PATH] [--cores N] [--runs N] [--only WORD] [--workers LIST] [--out FILE.json]
+
+Formulas are some of those of bench/solving.py, each with a limit of conflicts, so that a run takes some seconds. For each the
+numbers of workers go round, N times; the answer with its trace must be the same bytes each time, else the script ends with 1.
+For each number of workers stand the least wall time, how many times as fast that is as one worker, the processor time of all
+threads by that wall time (how many processors were busy on average), and the share of the wall time in which the caller's
+thread worked: reading, what happens between stretches, and writing, during which the workers stand still. That share is read
+from the system's account of the thread every few milliseconds, so it is a little short.
+"""
+import argparse
+import hashlib
+import importlib.util
+import json
+import math
+import os
+import resource
+import subprocess
+import sys
+import tempfile
+import time
+
+TOP = os.path.dirname(os.path.dirname(os.path.abspath(__file__)))
+# The formulas, and the conflicts that each core may have.
+FILES = (('random-150-0', 20000), ('random-200-0', 6000), ('random-250-1', 4000), ('pigeonhole-8', 10000),
+         ('multipliers-4', 10000), ('grid-30-3', 20000))
+
+
+def solving():
+    """The formulas of bench/solving.py and how they are written."""
+    spec = importlib.util.spec_from_file_location('solving', os.path.join(TOP, 'bench', 'solving.py'))
+    module = importlib.util.module_from_spec(spec)
+    sys.dont_write_bytecode = True
+    spec.loader.exec_module(module)
+    return module
+
+
+def callers_seconds(pid):
+    """The processor time of the caller's thread so far, or None once it has ended."""
+    try:
+        with open('/proc/%d/task/%d/schedstat' % (pid, pid)) as account:
+            return int(account.read().split()[0]) / 1e9
+    except (OSError, IndexError, ValueError):
+        return None
+
+
+def timed(command):
+    """Wall seconds, processor seconds of all threads, those of the caller's thread, and a digest of the answer of one run."""
+    with tempfile.TemporaryFile() as text:
+        before = resource.getrusage(resource.RUSAGE_CHILDREN)
+        began = time.monotonic()
+        child = subprocess.Popen(command, stdout=text, stderr=subprocess.DEVNULL)
+        caller = 0.0
+        while child.poll() is None:
+            caller = callers_seconds(child.pid) or caller
+            time.sleep(0.004)
+        wall = time.monotonic() - began
+        after = resource.getrusage(resource.RUSAGE_CHILDREN)
+        text.seek(0)
+        digest = hashlib.sha256(text.read()).hexdigest()
+        busy = after.ru_utime + after.ru_stime - before.ru_utime - before.ru_stime
+        return {'wall': wall, 'busy': busy, 'caller': caller, 'answer': '%d %s' % (child.returncode, digest)}
+
+
+def measure(program, path, limit, cores, workers, runs):
+    """The run of least wall time for each number of workers, and whether all answers were the same."""
+    best, answers = {}, set()
+    for _ in range(runs):
+        for count in workers:
+            figures = timed([program, 'solve', path, '--cores', str(cores), '--workers', str(count), '--limit', str(limit),
+                             '--trace'])
+            answers.add(figures['answer'])
+            if count not in best or figures['wall'] < best[count]['wall']:
+                best[count] = figures
+    return best, len(answers) == 1
+
+
+def main():
+    parser = argparse.ArgumentParser(description=__doc__, formatter_class=argparse.RawDescriptionHelpFormatter)
+    parser.add_argument('--program', default=os.path.join(TOP, 'crates', 'dp2ll', 'out', 'dp2ll'))
+    parser.add_argument('--cores', type=int, default=4)
+    parser.add_argument('--runs', type=int, default=3)
+    parser.add_argument('--only', default='')
+    parser.add_argument('--workers', default='1,2,4')
+    parser.add_argument('--out')
+    args = parser.parse_args()
+    workers = [int(count) for count in args.workers.split(',')]
+    formulas = solving()
+    makers = {name: make for name, make, _ in formulas.files()}
+    kept, differ = {}, []
+    with tempfile.TemporaryDirectory(prefix='speedup') as folder:
+        path = os.path.join(folder, 'formula.cnf')
+        for name, limit in FILES:
+            if args.only not in name:
+                continue
+            formulas.write_formula(path, makers[name]())
+            kept[name], same = measure(args.program, path, limit, args.cores, workers, args.runs)
+            differ += [] if same else [name]
+            for count, figures in kept[name].items():
+                print('%-16s limit %6d  %2d workers %8.2f s, %.2f times as fast, %.2f processors busy, caller %4.1f %%'
+                      % (name, limit, count, figures['wall'], kept[name][workers[0]]['wall'] / figures['wall'],
+                         figures['busy'] / figures['wall'], 100 * figures['caller'] / figures['wall']))
+            sys.stdout.flush()
+    for count in workers:
+        ratios = [rows[workers[0]]['wall'] / rows[count]['wall'] for rows in kept.values()]
+        print('%2d workers: %.2f times as fast as %d (geometric mean of %d files)'
+              % (count, math.exp(sum(map(math.log, ratios)) / len(ratios)), workers[0], len(ratios)))
+    if args.out:
+        with open(args.out, 'w') as out:
+            json.dump({'cores': args.cores, 'runs': args.runs, 'files': kept}, out, indent=1)
+    print('\n'.join('%s: answers differ' % name for name in differ))
+    return 1 if differ else 0
+
+
+if __name__ == '__main__':
+    sys.exit(main())
