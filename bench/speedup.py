@@ -7,8 +7,8 @@ Formulas are some of those of bench/solving.py, each with a limit of conflicts, 
 numbers of workers go round, N times; the answer with its trace must be the same bytes each time, else the script ends with 1.
 For each number of workers stand the least wall time, how many times as fast that is as one worker, the processor time of all
 threads by that wall time (how many processors were busy on average), and the share of the wall time in which the caller's
-thread worked: reading, what happens between stretches, and writing, during which the workers stand still. That share is read
-from the system's account of the thread every few milliseconds, so it is a little short.
+thread was alone: reading, what happens between stretches, writing, and what is left of the stretches of its own cores when
+the other threads have ended theirs. That share is of samples, one every two milliseconds.
 """
 import argparse
 import hashlib
@@ -24,8 +24,7 @@ import time
 
 TOP = os.path.dirname(os.path.dirname(os.path.abspath(__file__)))
 # The formulas, and the conflicts that each core may have.
-FILES = (('random-150-0', 20000), ('random-200-0', 6000), ('random-250-1', 4000), ('pigeonhole-8', 10000),
-         ('multipliers-4', 10000), ('grid-30-3', 20000))
+FILES = (('random-200-0', 4000), ('random-250-1', 2500), ('pigeonhole-8', 5000))
 
 
 def solving():
@@ -37,31 +36,31 @@ def solving():
     return module
 
 
-def callers_seconds(pid):
-    """The processor time of the caller's thread so far, or None once it has ended."""
+def threads_of(pid):
+    """How many threads the process has; none once it has ended."""
     try:
-        with open('/proc/%d/task/%d/schedstat' % (pid, pid)) as account:
-            return int(account.read().split()[0]) / 1e9
-    except (OSError, IndexError, ValueError):
-        return None
+        return len(os.listdir('/proc/%d/task' % pid))
+    except OSError:
+        return 0
 
 
 def timed(command):
-    """Wall seconds, processor seconds of all threads, those of the caller's thread, and a digest of the answer of one run."""
+    """Wall seconds, processor seconds, the share of samples with one thread alone, and a digest of the answer of one run."""
     with tempfile.TemporaryFile() as text:
         before = resource.getrusage(resource.RUSAGE_CHILDREN)
         began = time.monotonic()
         child = subprocess.Popen(command, stdout=text, stderr=subprocess.DEVNULL)
-        caller = 0.0
+        alone = samples = 0
         while child.poll() is None:
-            caller = callers_seconds(child.pid) or caller
-            time.sleep(0.004)
+            alone += threads_of(child.pid) == 1
+            samples += 1
+            time.sleep(0.002)
         wall = time.monotonic() - began
         after = resource.getrusage(resource.RUSAGE_CHILDREN)
         text.seek(0)
         digest = hashlib.sha256(text.read()).hexdigest()
         busy = after.ru_utime + after.ru_stime - before.ru_utime - before.ru_stime
-        return {'wall': wall, 'busy': busy, 'caller': caller, 'answer': '%d %s' % (child.returncode, digest)}
+        return {'wall': wall, 'busy': busy, 'alone': alone / max(samples, 1), 'answer': '%d %s' % (child.returncode, digest)}
 
 
 def measure(program, path, limit, cores, workers, runs):
@@ -99,9 +98,9 @@ def main():
             kept[name], same = measure(args.program, path, limit, args.cores, workers, args.runs)
             differ += [] if same else [name]
             for count, figures in kept[name].items():
-                print('%-16s limit %6d  %2d workers %8.2f s, %.2f times as fast, %.2f processors busy, caller %4.1f %%'
+                print('%-16s limit %6d  %2d workers %8.2f s, %.2f times as fast, %.2f processors busy, caller alone %4.1f %%'
                       % (name, limit, count, figures['wall'], kept[name][workers[0]]['wall'] / figures['wall'],
-                         figures['busy'] / figures['wall'], 100 * figures['caller'] / figures['wall']))
+                         figures['busy'] / figures['wall'], 100 * figures['alone']))
             sys.stdout.flush()
     for count in workers:
         ratios = [rows[workers[0]]['wall'] / rows[count]['wall'] for rows in kept.values()]
