@@ -8,8 +8,6 @@ use Rattle.lit_base.specs.Named.{same_name, lits_at}
 use Rattle.lit_base.specs.Held.{HeldClause, clause_of, clauses_of, is_before, with_clause, without_names, is_among, names_of, with_named, clauses_without}
 use Rattle.lit_base.specs.declared.name.Name.{Name}
 use Rattle.lit_base.proofs.HeldClauses.{lits_at-cons}
-use Rattle.round_prop.specs.Rows.{clause_of_row, clauses_of_rows}
-use Rattle.round_prop.specs.declared.row.Row.{Row}
 
 map-cond : {X Y : Type 0} (f : X → Y) (b : Bool) (xs ys : List X) → map f (cond b xs ys) ≡ cond b (map f xs) (map f ys)
 map-cond f true xs ys = refl
@@ -47,11 +45,6 @@ is_among-names_of (c ∷ later) name =
 -- a name that isn't found isn't among the names
 pub not_among : (clauses : List NamedClause) (name : Name) → lits_at clauses name ≡ None → is_among (names_of clauses) name ≡ false
 not_among clauses name none = is_among-names_of clauses name ∙ ap is_some none
-
--- the clauses of rows without some
-pub clauses_of_rows-without : (names : List Name) (rows : List Row) →
-    clauses_of_rows (filter (λ row. not (is_among names row.name)) rows) ≡ clauses_without names (clauses_of_rows rows)
-clauses_of_rows-without names rows = map-filter clause_of_row (λ c. not (is_among names c.name)) rows
 
 filter-last : {X : Type 0} (p : X → Bool) (xs : List X) (x : X) → filter p (xs ++ x ∷ []) ≡ filter p xs ++ (if p x then x ∷ [] else [])
 filter-last p [] x = refl

@@ -1,5 +1,13 @@
-pub mod Attached
-pub mod Rows
 pub mod Found
-pub mod Candidates
+pub mod Chains
+pub mod Linked
+pub mod Noting
+pub mod Readied
+pub mod Walking
+pub mod Pairs
+pub mod FreshClauses
+pub mod Shorts
+pub mod Room
+pub mod Attached
 pub mod Propagation
+pub mod Removal

@@ -5,13 +5,23 @@ pub use found::Found;
 pub use laws::{law_attached_follow_held, law_attached_is_determined};
 pub use rounds::Rounds;
 
-mod candidate;
+mod begin;
 mod clause;
 mod found;
+mod fresh;
 mod laws;
-mod names;
+mod links;
+mod node;
+mod note;
+mod noted;
+mod removal;
+mod room;
 mod round;
 mod rounds;
 mod row;
+mod short;
+mod table;
 #[cfg(test)]
 mod tests;
+mod visit;
+mod walk;

@@ -1,51 +1,58 @@
-//! Rounds of propagation over the clauses of these rows.
-ghost use Rattle.std.specs.Prelude.{◌≡◌, ℕ, ◌+◌, ◌≤◌, ◌<◌, ◌++◌, ◌==◌, ◌||◌, List, length, All, IfNone, Some, is_some, vec_len, vec_capacity};
+//! Rounds of propagation over a table of linked clauses.
+ghost use Rattle.std.specs.Prelude.{◌≡◌, ℕ, ◌+◌, ◌≤◌, ◌++◌, ◌==◌, ◌||◌, List, length, All, IfNone, IfSome, is_some};
 ghost use Rattle.std.specs.List.{AllByRecursion};
 ghost use Rattle.lit_base.specs.Literal.{IsWithin};
-ghost use Rattle.lit_base.specs.Held.{clauses_of};
-ghost use Rattle.lit_base.specs.Rounds.{Propagated, conflict_of, only_free, with_unit, round, propagate};
+ghost use Rattle.lit_base.specs.Held.{clauses_of, AreRisingBy};
+ghost use Rattle.lit_base.specs.Rounds.{NamedClause, Propagated, conflict_of, with_units, round, propagate};
 ghost use Rattle.lit_base.specs.Named.{lits_at};
 ghost use Rattle.lit_base.specs.Fits.{FindsAll};
-ghost use Rattle.round_prop.specs.Rows.{clauses_of_rows};
+ghost use Rattle.lit_base.specs.declared.trail.Entry.{Entry};
 ghost use Rattle.round_prop.specs.Found.{found_of};
-ghost use Rattle.round_prop.specs.Candidates.{with_candidate, candidates_of, with_implied};
-ghost use Rattle.round_prop.specs.declared.candidate.Candidate.{Candidate};
+ghost use Rattle.round_prop.specs.Noting.{with_noted};
+ghost use Rattle.round_prop.specs.Pairs.{pairs_of};
+ghost use Rattle.round_prop.specs.Readied.{oldest, IsReady, HaveSameRows};
+ghost use Rattle.round_prop.specs.declared.note.Note.{Note};
 
-use crate::candidate::Candidate;
-use crate::clause::{first_not_false, is_unit};
 use crate::found::Found;
-use crate::row::Row;
+use crate::noted::{conflict_in, imply_all};
+use crate::table::Table;
+use crate::walk::gather;
 use clause_pool::{Pool, Steps};
-use lit_base::{Lit, Name};
+use lit_base::Name;
 use std::sync::ledger::Ledger;
 use trail_book::Trail;
 
-/// Rounds to a conflict or a fixed point: at most one more than there are variables.
+/// Rounds to a conflict or a fixed point: at most one more than there are variables. The first `seen` entries were seen before.
 pub(crate) fn run_rounds<L: Ledger>(
-    rows: &[Row],
+    table: &mut Table,
     pool: &Pool,
     trail: &mut Trail,
-    candidates: &mut Vec<Candidate>,
+    seen: usize,
     steps: &mut Steps<L>,
 ) -> Found
-    requires attached { clauses_of_rows rows.now ≡ clauses_of pool.now }
-    requires found { FindsAll (lits_at (clauses_of pool.now)) (clauses_of pool.now) }
+    requires ready { IsReady (length trail.old.saved) (clauses_of pool.now) trail.old.entries (oldest seen trail.old.entries) table.old }
+    requires seen { seen ≤ length trail.old.entries }
     requires within { All (λ c. All (IsWithin (length trail.old.saved)) c.lits) (clauses_of pool.now) }
-    requires room { length rows.now ≤ vec_capacity candidates.old }
     ensures trail { trail.new ≡ record trail.old { entries = (propagate (length trail.old.saved) (clauses_of pool.now) trail.old.entries).trail } }
     ensures found { result ≡ found_of (propagate (length trail.old.saved) (clauses_of pool.now) trail.old.entries).conflict }
-    ensures room { vec_capacity candidates.new ≡ vec_capacity candidates.old }
+    ensures ready { IsReady (length trail.old.saved) (clauses_of pool.now) trail.new.entries trail.new.entries table.new }
+    ensures rows { HaveSameRows table.old table.new }
     ensures steps { steps.old ≤ steps.new }
+    ensures few { (newer : List Entry) → trail.new.entries ≡ newer ++ oldest seen trail.old.entries → steps.new ≤ steps.old + pairs_of (clauses_of pool.now) newer }
 {
+    // for the checker alone: that the pool's clauses stand in order and are found, which its volume tells
+    let _ = pool.volume();
     let most = u64::from(trail.variables()) + 1;
+    let mut from = seen;
     for _ in 0..most {
-        let seen = trail.len();
-        let conflict = run_round(rows, pool, trail, candidates, steps);
-        if is_last(conflict, seen, trail.len()) {
+        let len = trail.len();
+        let conflict = run_round(table, pool, trail, from, steps);
+        if is_last(conflict, len, trail.len()) {
             return found(conflict);
         }
+        from = len;
     }
-    found(scan(rows, pool, trail, candidates, steps))
+    found(meet(table, pool, trail, from, steps))
 }
 
 /// Whether a round is the last: it met a conflict, or left the trail as long as it was.
@@ -67,84 +74,68 @@ fn found(conflict: Option<Name>) -> Found
 
 /// One round: the least name of a falsified clause, or else all units are implied.
 fn run_round<L: Ledger>(
-    rows: &[Row],
+    table: &mut Table,
     pool: &Pool,
     trail: &mut Trail,
-    candidates: &mut Vec<Candidate>,
+    seen: usize,
     steps: &mut Steps<L>,
 ) -> Option<Name>
-    requires attached { clauses_of_rows rows.now ≡ clauses_of pool.now }
-    requires found { FindsAll (lits_at (clauses_of pool.now)) (clauses_of pool.now) }
+    requires ready { IsReady (length trail.old.saved) (clauses_of pool.now) trail.old.entries (oldest seen trail.old.entries) table.old }
+    requires seen { seen ≤ length trail.old.entries }
     requires within { All (λ c. All (IsWithin (length trail.old.saved)) c.lits) (clauses_of pool.now) }
-    requires room { length rows.now ≤ vec_capacity candidates.old }
+    requires finds { FindsAll (lits_at (clauses_of pool.now)) (clauses_of pool.now) }
+    requires rising { AreRisingBy (λ (c : NamedClause). c.name) (clauses_of pool.now) }
     ensures conflict { result ≡ (round (clauses_of pool.now) trail.old.entries).conflict }
     ensures trail { trail.new ≡ record trail.old { entries = (round (clauses_of pool.now) trail.old.entries).trail } }
-    ensures room { vec_capacity candidates.new ≡ vec_capacity candidates.old }
+    ensures ready { IsReady (length trail.old.saved) (clauses_of pool.now) trail.new.entries trail.old.entries table.new }
+    ensures same { HaveSameRows table.old table.new }
     ensures steps { steps.old ≤ steps.new }
+    ensures few { steps.new + pairs_of (clauses_of pool.now) (oldest seen trail.old.entries) ≤ steps.old + pairs_of (clauses_of pool.now) trail.old.entries }
 {
-    let conflict = scan(rows, pool, trail, candidates, steps);
-    if conflict.is_none() {
-        imply_all(trail, candidates);
+    let conflict = meet(table, pool, trail, seen, steps);
+    if conflict.is_some() {
+        return conflict;
     }
-    conflict
-}
-
-/// The least name of a clause that is falsified on the trail; where there is none, the units are gathered in the order
-/// of their clauses' names.
-fn scan<L: Ledger>(
-    rows: &[Row],
-    pool: &Pool,
-    trail: &Trail,
-    candidates: &mut Vec<Candidate>,
-    steps: &mut Steps<L>,
-) -> Option<Name>
-    requires attached { clauses_of_rows rows.now ≡ clauses_of pool.now }
-    requires found { FindsAll (lits_at (clauses_of pool.now)) (clauses_of pool.now) }
-    requires room { length rows.now ≤ vec_capacity candidates.old }
-    ensures conflict { result ≡ conflict_of trail.now.entries (clauses_of pool.now) }
-    ensures units { IfNone result (candidates.new.items ≡ candidates_of trail.now.entries (clauses_of pool.now)) }
-    ensures room { vec_capacity candidates.new ≡ vec_capacity candidates.old }
-    ensures steps { steps.old ≤ steps.new }
-{
-    candidates.clear();
-    for row in rows {
-        let lits = pool.lits(row.name, steps);
-        let Some(first) = first_not_false(trail, lits) else {
-            return Some(row.name);
-        };
-        note_unit(candidates, trail, lits, first, row.name);
-    }
+    settle(table, trail);
     None
 }
 
-/// Adds the clause's unit to the candidates, which have room, where the first literal that isn't false is one.
-fn note_unit(candidates: &mut Vec<Candidate>, trail: &Trail, lits: &[Lit], first: Lit, name: Name)
-    requires { vec_len candidates.old < vec_capacity candidates.old }
-    ensures items { (rest : List Candidate) → candidates.new.items ++ rest ≡ candidates.old.items ++ with_candidate name (only_free trail.now.entries lits.now (Some first)) rest }
-    ensures few { vec_len candidates.new ≤ vec_len candidates.old + 1 }
-    ensures room { vec_capacity candidates.new ≡ vec_capacity candidates.old }
+/// The least name of a clause that is falsified on the trail; where there is none, the notes are the units by name.
+fn meet<L: Ledger>(
+    table: &mut Table,
+    pool: &Pool,
+    trail: &Trail,
+    seen: usize,
+    steps: &mut Steps<L>,
+) -> Option<Name>
+    requires ready { IsReady (length trail.now.saved) (clauses_of pool.now) trail.now.entries (oldest seen trail.now.entries) table.old }
+    requires seen { seen ≤ length trail.now.entries }
+    requires within { All (λ c. All (IsWithin (length trail.now.saved)) c.lits) (clauses_of pool.now) }
+    requires finds { FindsAll (lits_at (clauses_of pool.now)) (clauses_of pool.now) }
+    requires rising { AreRisingBy (λ (c : NamedClause). c.name) (clauses_of pool.now) }
+    ensures conflict { result ≡ conflict_of trail.now.entries (clauses_of pool.now) }
+    ensures units { IfNone result (with_noted table.new.noted.notes.items trail.now.entries ≡ with_units trail.now.entries (clauses_of pool.now) trail.now.entries) }
+    ensures within { AllByRecursion (λ (n : Note). IfSome n.lit (λ l. l.variable ≤ length trail.now.saved)) table.new.noted.notes.items }
+    ensures ready { IsReady (length trail.now.saved) (clauses_of pool.now) trail.now.entries trail.now.entries table.new }
+    ensures same { HaveSameRows table.old table.new }
+    ensures steps { steps.old ≤ steps.new }
+    ensures few { steps.new + pairs_of (clauses_of pool.now) (oldest seen trail.now.entries) ≤ steps.old + pairs_of (clauses_of pool.now) trail.now.entries }
 {
-    if is_unit(trail, lits, first) {
-        candidates.push_reserved(Candidate { lit: first, name });
-    }
+    gather(table, pool, trail, seen, steps);
+    table.noted.order();
+    conflict_in(&table.noted.notes, trail)
 }
 
-/// Implies the candidates in order, each where its variable is still free.
-fn imply_all(trail: &mut Trail, candidates: &[Candidate])
-    requires { AllByRecursion (λ c. c.lit.variable ≤ length trail.old.saved) candidates.now }
-    ensures { trail.new ≡ record trail.old { entries = with_implied candidates.now trail.old.entries } }
+/// Implies the literals of the notes, each where it is free, and keeps the notes of the clauses that are falsified by that.
+fn settle(table: &mut Table, trail: &mut Trail)
+    requires { AllByRecursion (λ (n : Note). IfSome n.lit (λ l. l.variable ≤ length trail.old.saved)) table.old.noted.notes.items }
+    ensures trail { trail.new ≡ record trail.old { entries = with_noted table.old.noted.notes.items trail.old.entries } }
+    ensures ready { (variables : ℕ) (clauses : List NamedClause) → FindsAll (lits_at clauses) clauses → IsReady variables clauses trail.old.entries trail.old.entries table.old →
+        IsReady variables clauses trail.new.entries trail.old.entries table.new }
+    ensures same { HaveSameRows table.old table.new }
 {
-    for candidate in candidates {
-        imply_free(trail, candidate.lit, candidate.name);
-    }
-}
-
-/// Implies a literal where its variable is free.
-fn imply_free(trail: &mut Trail, lit: Lit, name: Name)
-    requires { lit.variable ≤ length trail.old.saved }
-    ensures { trail.new ≡ record trail.old { entries = with_unit name (Some lit) trail.old.entries } }
-{
-    if trail.is_free(lit.var()) {
-        trail.imply(lit, name);
-    }
+    imply_all(&table.noted.notes, trail);
+    // for the checker alone: that the trail is over distinct variables
+    let _ = trail.len();
+    table.noted.keep_lost(trail);
 }

@@ -1,4 +1,4 @@
-ghost use Rattle.std.specs.Prelude.{◌≡◌, ◌≤◌, ◌++◌, [], ◌∷◌, List, IsSome, Some, None, IfOk, OnOk, OnErr};
+ghost use Rattle.std.specs.Prelude.{◌≡◌, ◌≤◌, ◌+◌, ◌++◌, [], ◌∷◌, List, IsSome, Some, None, IfOk, OnOk, OnErr, length};
 ghost use Rattle.lit_base.specs.Literal.{Literal};
 ghost use Rattle.lit_base.specs.Named.{lits_at};
 ghost use Rattle.lit_base.specs.Held.{clauses_of, with_named, names_without, clauses_without};
@@ -6,13 +6,17 @@ ghost use Rattle.lit_base.specs.Rounds.{NamedClause};
 ghost use Rattle.lit_base.specs.declared.trail.Entry.{Entry};
 ghost use Rattle.lit_base.specs.declared.name.Name.{Name};
 ghost use Rattle.round_prop.specs.Attached.{IsAttached, IsNewTo, AreAttachedNames, IsSettled};
+ghost use Rattle.round_prop.specs.Pairs.{pairs_of};
 ghost use Rattle.round_prop.specs.Propagation.{MayPropagate, HasPropagated};
 
-use crate::candidate::Candidate;
+use crate::begin::{begin_fresh, note_anew};
 use crate::found::Found;
-use crate::names::{is_among, place_for};
+use crate::fresh::Fresh;
+use crate::removal::is_among;
+use crate::room::make_room;
 use crate::round::run_rounds;
-use crate::row::Row;
+use crate::short::Short;
+use crate::table::Table;
 use clause_pool::{Pool, Steps};
 use lit_base::{Name, NoMemory};
 use std::alloc::Global;
@@ -25,36 +29,44 @@ use trail_book::Trail;
 ///
 /// Propagation goes in rounds, each over one snapshot of the trail: it ends at the least name of a falsified clause, and
 /// else implies the units in the order of names (unit propagation: Davis, Logemann and Loveland 1962; the order by rounds
-/// and names is this product's own). A round looks at each attached clause.
+/// and names is this product's own). A round looks only at clauses that are linked by a literal that became false (links of
+/// two literals: Moskewicz, Madigan, Zhao, Zhang and Malik 2001).
 ///
-/// `rows` is by rising names, `fresh` has the names attached since the last propagation ended, the newest last, and
-/// `seen` is the number of entries seen, which are the oldest of `trail`. `candidates` has room for one of each row, so
-/// that propagation takes no memory.
+/// `table` has a row for each clause of two literals or more, and `shorts` has the others. A clause that is attached stands
+/// among `fresh`, the newest last, till the next propagation reads it; all that this takes is reserved when it is attached.
+/// `seen` is the number of entries seen, which are the oldest of `trail`. `pool` is the pool as the last propagation saw it.
 #[derive(Drop)]
 pub struct Rounds {
     variables: u32,
-    rows: Vec<Row>,
-    fresh: Vec<Name>,
+    table: Table,
+    shorts: Vec<Short>,
+    fresh: Vec<Fresh>,
+    pool: Snapshot<Pool>,
     seen: usize,
     trail: Snapshot<Trail>,
-    candidates: Vec<Candidate>,
 }
 
 impl Model for Rounds {
-    ghost use Rattle.std.specs.Prelude.{reverse, vec_capacity};
-    ghost use Rattle.round_prop.specs.Attached.{RoundsState};
-    ghost use Rattle.round_prop.specs.Rows.{clauses_of_rows, AreRows};
+    ghost use Rattle.std.specs.Prelude.{◌≡◌, length, vec_len, vec_capacity};
+    ghost use Rattle.lit_base.specs.Held.{clauses_of};
+    ghost use Rattle.lit_base.specs.Fits.{HasDistinctVariables};
+    ghost use Rattle.round_prop.specs.Attached.{RoundsState, AreRoomy};
+    ghost use Rattle.round_prop.specs.FreshClauses.{clauses_of_fresh};
 
     ghost Value = { RoundsState };
 
     ghost view = { λ r. record {
       variables = r.variables;
-      attached = clauses_of_rows r.rows.items;
-      fresh = reverse r.fresh.items;
+      table = r.table;
+      shorts = r.shorts.items;
+      fresh = clauses_of_fresh r.fresh.items;
+      propagated = clauses_of r.pool.value;
       seen = r.trail.value.entries;
     } };
 
-    ghost invariant = { λ r. AreRows r.rows.items (vec_capacity r.candidates) r.seen r.trail.value.entries };
+    ghost invariant = { λ r.
+        AreRoomy r.variables r.table (vec_len r.shorts) (vec_capacity r.shorts) (vec_len r.fresh) × (r.seen ≡ length r.trail.value.entries)
+        × HasDistinctVariables r.trail.value.entries };
 }
 
 impl Rounds {
@@ -63,14 +75,17 @@ impl Rounds {
         ensures attached { IfOk result (λ rounds. IsAttached rounds [] [] []) }
         ensures variables { IfOk result (λ rounds. rounds.variables ≡ variables) }
     {
+        let none = Pool::new(alloc);
         let empty = Trail::with_room(alloc, 0)?;
+        let table = Table::make(alloc, variables)?;
         Ok(Rounds {
             variables,
-            rows: Vec::new(alloc),
+            table,
+            shorts: Vec::new(alloc),
             fresh: Vec::new(alloc),
+            pool: Snapshot::of(&none),
             seen: 0,
             trail: Snapshot::of(&empty),
-            candidates: Vec::new(alloc),
         })
     }
 
@@ -87,15 +102,11 @@ impl Rounds {
             IsAttached self.old attached fresh seen → IsAttached self.new attached fresh seen) }
         ensures variables { self.new.variables ≡ self.old.variables }
     {
-        // a round looks at each clause, so nothing of the trail is taken in here
+        // the next propagation links it, so nothing of the trail is taken in here
         let _ = trail;
-        self.candidates.clear();
-        self.candidates.reserve(self.rows.len() + 1)?;
-        self.fresh.reserve(1)?;
-        let place = place_for(&self.rows, name);
+        make_room(&mut self.table, &mut self.shorts, &mut self.fresh)?;
         let pool = Snapshot::of(pool);
-        self.rows.insert(place, Row { name, pool })?;
-        self.fresh.push_reserved(name);
+        self.fresh.push_reserved(Fresh { name, pool });
         Ok(())
     }
 
@@ -110,12 +121,15 @@ impl Rounds {
     {
         // a row has its name, so no clause is read
         let _ = pool;
-        self.rows.retain(|row| !is_among(names, row.name));
-        self.fresh.retain(|name| !is_among(names, *name));
+        self.table.remove(names);
+        self.shorts.retain(|short| !is_among(names, short.name));
+        self.fresh.retain(|fresh| !is_among(names, fresh.name));
     }
 
     /// Tells that the trail was cut; call it before the trail grows again. Where entries that were seen have left, those
     /// seen are then the trail's.
+    ///
+    /// A cut leaves the links as they are; it takes back what was noted, and notes the short clauses where no entry is left.
     pub fn jumped(&mut self, trail: &Trail)
         ensures cut { (attached : List NamedClause) (fresh : List Name) (seen more : List Entry) →
             IsAttached self.old attached fresh seen → seen ≡ more ++ trail.now.entries →
@@ -125,12 +139,20 @@ impl Rounds {
             IsAttached self.new attached fresh seen }
         ensures variables { self.new.variables ≡ self.old.variables }
     {
-        if trail.len() < self.seen {
-            self.see(trail);
+        let len = trail.len();
+        if len >= self.seen {
+            return;
         }
+        self.table.noted.clear();
+        note_anew(&mut self.table.noted, &self.shorts, len);
+        self.seen = len;
+        self.trail = Snapshot::of(trail);
     }
 
     /// Propagates over the held clauses, which are those that are attached, to a conflict or a fixed point; takes no memory.
+    ///
+    /// It reads each fresh clause once, and else at most each clause once for each of its literals that has become false
+    /// since the last propagation ended.
     pub fn propagate<L: Ledger>(
         &mut self,
         pool: &Pool,
@@ -140,20 +162,24 @@ impl Rounds {
         requires { MayPropagate self.old pool.now trail.old }
         ensures propagated { HasPropagated pool.now trail.old self.new trail.new result }
         ensures steps { steps.old ≤ steps.new }
+        ensures few { (fresh : List Name) (seen newer : List Entry) → IsAttached self.old (clauses_of pool.now) fresh seen →
+            trail.new.entries ≡ newer ++ seen →
+            steps.new ≤ steps.old + pairs_of (clauses_of pool.now) newer + length fresh }
     {
-        // for the checker alone: that the pool's clauses stand in order and are found, which its volume tells
-        let _ = pool.volume();
-        let found = run_rounds(&self.rows, pool, trail, &mut self.candidates, steps);
-        self.fresh.clear();
-        self.see(trail);
-        found
-    }
-
-    /// From now on the entries seen are those of the trail.
-    fn see(&mut self, trail: &Trail)
-        ensures { self.new ≡ record self.old { seen = trail.now.entries } }
-    {
+        // for the checker alone: that the entries are over distinct variables, which their number tells
+        let _ = trail.len();
+        begin_fresh(
+            &mut self.table,
+            &mut self.shorts,
+            &mut self.fresh,
+            pool,
+            trail,
+            steps,
+        );
+        let found = run_rounds(&mut self.table, pool, trail, self.seen, steps);
+        self.pool = Snapshot::of(pool);
         self.seen = trail.len();
         self.trail = Snapshot::of(trail);
+        found
     }
 }

@@ -1,12 +1,8 @@
-use clause_pool::Pool;
 use lit_base::Name;
-use std::snapshot::Snapshot;
 
-/// An attached clause: its name, and the pool as it was at `attach`.
-///
-/// The snapshot has no bytes. It ties the clause's literals to that pool, so that no other pool with the same names will do.
-#[derive(Drop)]
+/// A clause that is linked: its name, and where the pool is believed to hold it.
+#[derive(Clone, Copy)]
 pub(crate) struct Row {
     pub(crate) name: Name,
-    pub(crate) pool: Snapshot<Pool>,
+    pub(crate) place: u32,
 }

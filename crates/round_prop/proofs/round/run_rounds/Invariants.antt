@@ -1,6 +1,8 @@
-use Rattle.std.proofs.Common.{◌≡◌, ◌≤◌, ◌-◌, length, vec_capacity}
+use Rattle.std.proofs.Common.{◌≡◌, ◌≤◌, ◌+◌, ◌-◌, length}
 use Rattle.lit_base.specs.Held.{clauses_of}
 use Rattle.lit_base.specs.Rounds.{rounds, propagate}
+use Rattle.round_prop.specs.Pairs.{pairs_of}
+use Rattle.round_prop.specs.Readied.{oldest, IsReady, HaveSameRows}
 use Rattle.round_prop.proofs.round.run_rounds.Given as goal
 
 -- the rounds to come end where propagation ends
@@ -8,6 +10,9 @@ abbrev pub invariant-loop : goal.invariant-loop
 invariant-loop g l = record {
   saved : l.trail.saved ≡ l.fn.trail.saved;
   rest : rounds (l.most - l.counter) (clauses_of l.pool) l.trail.entries ≡ propagate (length l.fn.trail.saved) (clauses_of l.pool) l.fn.trail.entries;
-  room : vec_capacity l.candidates ≡ vec_capacity l.fn.candidates;
+  ready : IsReady (length l.fn.trail.saved) (clauses_of l.pool) l.trail.entries (oldest l.from l.trail.entries) l.table;
+  seen : l.from ≤ length l.trail.entries;
+  same : HaveSameRows l.fn.table l.table;
   steps : l.fn.steps ≤ l.steps;
+  few : l.steps + pairs_of (clauses_of l.pool) (oldest l.seen l.fn.trail.entries) ≤ l.fn.steps + pairs_of (clauses_of l.pool) (oldest l.from l.trail.entries);
 }

@@ -1,9 +1,11 @@
 use Rattle.std.proofs.Common.{◌≡◌, true, length, All, ap, sym, ◌∙◌, subst, rules}
-use Rattle.std.specs.Prelude.{None}
+use Rattle.std.specs.Prelude.{None, IsTrue}
 use Rattle.std.proofs.lemmas.Result.{on_ok_weaker}
 use Rattle.lit_base.specs.Literal.{IsWithin}
 use Rattle.lit_base.specs.Named.{lits_at}
-use Rattle.lit_base.specs.Held.{HeldClause, clauses_of}
+use Rattle.lit_base.specs.Held.{HeldClause, clauses_of, is_among}
+use Rattle.lit_base.specs.Rounds.{NamedClause}
+use Rattle.lit_base.proofs.HeldClauses.{All-with}
 use Rattle.round_prop.specs.Propagation.{MayPropagate}
 use Rattle.round_prop.proofs.Joined.{new_to, found_new, attached-with, may-with}
 use Rattle.round_prop.proofs.tests.hold.Goals as goal
@@ -13,8 +15,8 @@ pub attach-requires-clause-new : goal.attach-requires-clause-new
 attach-requires-clause-new g c = new_to c.args.rounds.now c.args.name c.args.pool.now c.args.trail.now.entries c.requires.attached (search rules)
 
 -- the clause is held and attached
-pub returns : goal.returns
-returns g c =
+pub returns-clause-may : goal.returns-clause-may
+returns-clause-may g c =
     let one : HeldClause = record { name = c.args.name; lits = c.lits.result.now; uses = 0 } in
     let held = c.args.pool.now in
     let trail = c.args.trail.now in
@@ -29,4 +31,14 @@ returns g c =
     (may-with c.args.rounds.now c.attach.new.self one held trail
     (attached-with c.args.rounds.now c.attach.new.self one held trail.entries free (λ attached fresh seen told none. attaches attached fresh seen one.lits told found none) c.requires.attached)
     c.attach.ensures.variables within c.requires))
+    c.attach.ensures.attached
+
+-- and its name is one of the names that all have
+pub returns-clause-names : goal.returns-clause-names
+returns-clause-names g c =
+    let one : HeldClause = record { name = c.args.name; lits = c.lits.result.now; uses = 0 } in
+    let is = sym c.in_ok-add.ensures.ok in
+    on_ok_weaker c.attach.result
+    (λ attaches names among before.
+    let Named = λ (d : NamedClause). IsTrue (is_among names d.name) in subst (λ more. All Named (clauses_of more)) is (All-with Named one c.args.pool.now among before))
     c.attach.ensures.attached

@@ -1,8 +1,10 @@
-use Rattle.std.proofs.Common.{◌≡◌, true, ◌∷◌, [], sym, subst, rules}
-use Rattle.std.specs.Prelude.{is_some}
+use Rattle.std.proofs.Common.{◌≡◌, true, ◌∷◌, [], All, sym, subst, rules}
+use Rattle.std.specs.Prelude.{is_some, IsTrue}
 use Rattle.std.specs.List.{IsDistinct}
 use Rattle.lit_base.specs.Named.{lits_at}
-use Rattle.lit_base.specs.Held.{clauses_of}
+use Rattle.lit_base.specs.Held.{clauses_of, is_among}
+use Rattle.lit_base.specs.Rounds.{NamedClause}
+use Rattle.lit_base.proofs.HeldClauses.{All-without}
 use Rattle.round_prop.specs.Propagation.{MayPropagate}
 use Rattle.round_prop.proofs.Joined.{attached-without, may-without}
 use Rattle.round_prop.proofs.tests.release.Goals as goal
@@ -21,10 +23,16 @@ unfolding IsDistinct
 drop_names-requires-clause-distinct g c = (tt, tt)
 
 -- the others are held and attached
-pub returns : goal.returns
-returns g c =
+pub returns-clause-may : goal.returns-clause-may
+returns-clause-may g c =
     let names = c.args.name ∷ [] in
     let held = c.args.pool.now in
     let attached = attached-without c.args.rounds.now c.detach.new.self names held c.args.trail.now.entries c.detach.ensures.attached c.requires.attached in
     subst (λ less. MayPropagate c.detach.new.self less c.args.trail.now) (sym c.drop_names.ensures)
     (may-without c.args.rounds.now c.detach.new.self names held c.args.trail.now attached c.detach.ensures.variables c.requires)
+
+-- under the names that all have
+pub returns-clause-names : goal.returns-clause-names
+returns-clause-names g c = λ names before.
+    let Named = λ (d : NamedClause). IsTrue (is_among names d.name) in
+    subst (λ less. All Named (clauses_of less)) (sym c.drop_names.ensures) (All-without Named (c.args.name ∷ []) c.args.pool.now before)

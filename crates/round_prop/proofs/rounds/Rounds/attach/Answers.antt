@@ -1,59 +1,72 @@
-use Rattle.std.proofs.Common.{◌≡◌, List, refl, ◌∷◌, [], ap, sym, ◌∙◌, subst, arith}
-use Rattle.std.specs.Prelude.{IsFalse, insert, reverse}
-use Rattle.std.proofs.lemmas.List.{reverse-append}
+use Rattle.std.proofs.Common.{◌≡◌, refl, ◌∷◌, ap, sym, ◌∙◌, subst, arith}
+use Rattle.std.specs.Prelude.{◌+◌, List, vec_len, vec_capacity}
 use Rattle.lit_base.specs.Literal.{Literal}
+use Rattle.lit_base.specs.Held.{clauses_of}
 use Rattle.lit_base.specs.Named.{lits_at}
-use Rattle.lit_base.specs.Held.{clauses_of, is_among, names_of, with_named, AreRisingBy}
 use Rattle.lit_base.specs.Rounds.{NamedClause}
-use Rattle.lit_base.specs.declared.name.Name.{Name}
-use Rattle.round_prop.specs.Attached.{RoundsState, IsAttached, IsNewTo}
-use Rattle.round_prop.specs.Rows.{clause_of_row, clauses_of_rows, found_lits}
-use Rattle.round_prop.specs.declared.row.Row.{Row}
-use Rattle.round_prop.proofs.Follow.{not_among}
-use Rattle.round_prop.proofs.Rising.{rising-with}
+use Rattle.round_prop.specs.contracts.rounds.Rounds.{the_view}
+use Rattle.round_prop.specs.Attached.{RoundsState, IsAttached, IsAttachedBy, AreRoomy}
+use Rattle.round_prop.specs.FreshClauses.{found_lits, clause_of_fresh, clauses_of_fresh}
+use Rattle.round_prop.specs.declared.fresh.Fresh.{Fresh}
+use Rattle.round_prop.proofs.Arriving.{attached_more, attached_same, fresh_last, on_err_always}
 use Rattle.round_prop.proofs.rounds.Rounds.attach.Goals as goal
-use Rattle.round_prop.proofs.rounds.Rounds.attach.Goals.{After-push_reserved}
 
--- no clause is attached under a new name
-not_attached : (r : RoundsState) (name : Name) (rows : List Row) → clauses_of_rows rows ≡ r.attached → IsNewTo r name → IsFalse (is_among (names_of (clauses_of_rows rows)) name)
-unfolding IsAttached
-not_attached r name rows are new = ap (λ clauses. is_among (names_of clauses) name) (are ∙ new.is.0) ∙ not_among new.attached name new.new
+pub make_room-requires : goal.make_room-requires
+make_room-requires c = (c.self.inside.variables, c.self.invariant.0)
 
-pub place_for-place-requires-clause-new : goal.place_for-place-requires-clause-new
-place_for-place-requires-clause-new c =
-    not_attached c.args.self.now c.args.name c.deref.result.now (ap clauses_of_rows c.deref.ensures.value ∙ ap (λ (r : RoundsState). r.attached) c.self.view_is) c.requires.new
-
--- the clause stands among the others
-put : (c : goal.After-push_reserved) →
-    clauses_of_rows c.insert.new.self.items ≡ with_named (clause_of_row (record { name = c.args.name; pool = c.of-pool.result })) (clauses_of_rows c.self.inside.rows.items)
-put c =
-    let row : Row = record { name = c.args.name; pool = c.of-pool.result } in
-    ap clauses_of_rows c.in_ok-insert.ensures.items
-    ∙ subst (λ rows. clauses_of_rows (insert rows c.place_for-place.result row) ≡ with_named (clause_of_row row) (clauses_of_rows rows)) c.deref.ensures.value
-    (c.place_for-place.ensures.place row refl)
+pub invariant_of-self : goal.invariant_of-self
+invariant_of-self c = (c.in_err-make_room.ensures.kept c.self.inside.variables c.self.invariant.0, c.self.invariant.1, c.self.invariant.2)
 
 pub invariant_of-self-2 : goal.invariant_of-self-2
 invariant_of-self-2 c =
-    let clauses = clauses_of_rows c.self.inside.rows.items in
-    let one : NamedClause = clause_of_row (record { name = c.args.name; pool = c.of-pool.result }) in
-    record {
-      rising =
-          subst (AreRisingBy (λ (d : NamedClause). d.name)) (sym (put c))
-          (rising-with one clauses (not_attached c.args.self.now c.args.name c.self.inside.rows.items (ap (λ (r : RoundsState). r.attached) c.self.view_is) c.requires.new) c.self.invariant.rising);
-      room_for_all = omega (arith, c.in_ok-insert.ensures.len, c.in_ok-reserve.ensures.ok);
-      seen_are = c.self.invariant.seen_are;
-    }
+    let table = c.make_room.new.table in
+    let shorts = c.make_room.new.shorts in
+    let long : vec_len c.make_room.new.fresh + 1 ≡ vec_len c.push_reserved.new.self = omega (arith, c.push_reserved.ensures.len) in (
+      subst (λ n. AreRoomy c.self.inside.variables table (vec_len shorts) (vec_capacity shorts) n) long (c.in_ok-make_room.ensures.more c.self.inside.variables c.self.invariant.0),
+      c.self.invariant.1,
+      c.self.invariant.2,
+    )
 
 -- its literals are those that the pool gives
 pub returns-clause-attached : goal.returns-clause-attached
 unfolding IsAttached
-returns-clause-attached c = λ attached fresh seen lits is found new.
-    let of_pool = ap (λ held. found_lits (lits_at (clauses_of held) c.args.name)) c.of-pool.ensures ∙ ap found_lits found in (
-      put c
-          ∙ (ap (λ (ls : List Literal). let one : NamedClause = record { name = c.args.name; lits = ls } in with_named one (clauses_of_rows c.self.inside.rows.items)) of_pool
-          ∙ ap (λ clauses. with_named (record { name = c.args.name; lits = lits }) clauses) (ap (λ (r : RoundsState). r.attached) c.self.view_is ∙ is.0)),
-      ap reverse c.push_reserved.ensures.items
-          ∙ (reverse-append c.reserve-2.new.self.items (c.args.name ∷ [])
-          ∙ ap (λ names. c.args.name ∷ names) (ap reverse c.in_ok-reserve-2.ensures.items ∙ (ap (λ (r : RoundsState). r.fresh) c.self.view_is ∙ is.1))),
-      ap (λ (r : RoundsState). r.seen) c.self.view_is ∙ is.2,
-    )
+returns-clause-attached c = λ attached fresh seen lits is found free.
+    let was = subst (λ (r : RoundsState). IsAttachedBy r attached fresh seen) (sym c.self.view_is) is in
+    let one : Fresh = record { name = c.args.name; pool = c.of-pool.result } in
+    let of_pool = ap (λ held. found_lits (lits_at (clauses_of held) c.args.name)) c.of-pool.ensures ∙ ap found_lits found in
+    let clause : clause_of_fresh one ≡ record { name = c.args.name; lits = lits } =
+    ap (λ (ls : List Literal). let d : NamedClause = record { name = c.args.name; lits = ls } in d) of_pool in
+    let arrives =
+    ap clauses_of_fresh c.push_reserved.ensures.items
+    ∙ (fresh_last c.make_room.new.fresh.items one
+    ∙ (ap (λ (d : NamedClause). d ∷ clauses_of_fresh c.make_room.new.fresh.items) clause
+    ∙ ap (λ fs. record { name = c.args.name; lits = lits } ∷ clauses_of_fresh fs) c.in_ok-make_room.ensures.fresh)) in
+    attached_more (the_view c.self.inside)
+    (the_view (record {
+      variables = c.self.inside.variables;
+      table = c.make_room.new.table;
+      shorts = c.make_room.new.shorts;
+      fresh = c.push_reserved.new.self;
+      pool = c.self.inside.pool;
+      seen = c.self.inside.seen;
+      trail = c.self.inside.trail;
+    }))
+    (record { name = c.args.name; lits = lits }) attached fresh seen c.in_ok-make_room.ensures.table c.in_ok-make_room.ensures.shorts arrives refl refl free was
+
+-- nothing has changed but room
+pub returns-in_err-make_room-clause-err : goal.returns-in_err-make_room-clause-err
+unfolding IsAttached
+returns-in_err-make_room-clause-err c = on_err_always c.from_residual.result
+    (λ attached fresh seen is.
+    let was = subst (λ (r : RoundsState). IsAttachedBy r attached fresh seen) (sym c.self.view_is) is in
+    attached_same (the_view c.self.inside)
+    (the_view (record {
+      variables = c.self.inside.variables;
+      table = c.make_room.new.table;
+      shorts = c.make_room.new.shorts;
+      fresh = c.make_room.new.fresh;
+      pool = c.self.inside.pool;
+      seen = c.self.inside.seen;
+      trail = c.self.inside.trail;
+    }))
+    attached fresh seen c.in_err-make_room.ensures.table c.in_err-make_room.ensures.shorts (ap clauses_of_fresh c.in_err-make_room.ensures.fresh) refl refl was)

@@ -1,44 +1,73 @@
-use Rattle.std.proofs.Common.{◌≡◌, Bool, not, rules, ap, sym, ◌∙◌, subst, arith}
-use Rattle.std.specs.Prelude.{reverse}
+use Rattle.std.proofs.Common.{◌≡◌, Bool, refl, arith, ap, sym, ◌∙◌, subst, rules}
+use Rattle.std.specs.Prelude.{not, filter, vec_len, vec_capacity}
 use Rattle.std.proofs.lemmas.Fn.{filter_same}
-use Rattle.lit_base.specs.Held.{is_among, names_without, clauses_without, AreRisingBy}
-use Rattle.lit_base.specs.Rounds.{NamedClause}
-use Rattle.lit_base.specs.declared.name.Name.{Name}
-use Rattle.round_prop.specs.Attached.{RoundsState, IsAttached}
-use Rattle.round_prop.specs.Rows.{clauses_of_rows}
-use Rattle.round_prop.specs.declared.row.Row.{Row}
-use Rattle.round_prop.proofs.Follow.{clauses_of_rows-without, filter-reverse}
-use Rattle.round_prop.proofs.Rising.{rising-filter}
+use Rattle.lit_base.specs.Held.{is_among, clauses_without}
+use Rattle.round_prop.specs.contracts.rounds.Rounds.{the_view}
+use Rattle.round_prop.specs.Attached.{RoundsState, IsAttached, IsAttachedBy}
+use Rattle.round_prop.specs.FreshClauses.{clauses_of_fresh}
+use Rattle.round_prop.specs.declared.fresh.Fresh.{Fresh}
+use Rattle.round_prop.specs.declared.short.Short.{Short}
+use Rattle.round_prop.proofs.Leaving.{threaded_wide, left_fewer, fresh_left, roomy_left, attached_left}
 use Rattle.round_prop.proofs.rounds.Rounds.detach.Goals as goal
-use Rattle.round_prop.proofs.rounds.Rounds.detach.Goals.{After-retain-2}
 
--- the clauses that are kept
-kept : (c : goal.After-retain-2) → clauses_of_rows c.retain.new.self.items ≡ clauses_without c.args.names.now (clauses_of_rows c.self.inside.rows.items)
-kept c =
-    let p : Row → Bool = λ (row : Row). not (is_among c.args.names.now row.name) in
-    ap clauses_of_rows (filter_same _ p _ (λ x b f' k. search rules) c.self.inside.rows.items c.retain.new.self.items c.retain.ensures.filtered)
-    ∙ clauses_of_rows-without c.args.names.now c.self.inside.rows.items
+-- each node that is linked has a list
+pub remove-requires-clause-wide : goal.remove-requires-clause-wide
+unfolding IsAttached
+remove-requires-clause-wide c =
+    let to = c.requires.attached in
+    let was = subst (λ (r : RoundsState). IsAttachedBy r to.attached to.fresh to.seen) (sym c.self.view_is) to.is in
+    threaded_wide c.self.inside.table.links.heads.items c.self.inside.table.links.nodes.items (vec_len c.self.inside.table.links.heads) (omega arith) was.are.table.threaded
 
--- the fresh names that are kept
-kept_fresh : (c : goal.After-retain-2) → reverse c.retain-2.new.self.items ≡ names_without c.args.names.now (reverse c.self.inside.fresh.items)
-kept_fresh c =
-    let p : Name → Bool = λ (name : Name). not (is_among c.args.names.now name) in
-    ap reverse (filter_same _ p _ (λ x b f' k. search rules) c.self.inside.fresh.items c.retain-2.new.self.items c.retain-2.ensures.filtered)
-    ∙ sym (filter-reverse p c.self.inside.fresh.items)
+-- no two rows have one name
+pub remove-requires-clause-apart : goal.remove-requires-clause-apart
+unfolding IsAttached
+remove-requires-clause-apart c =
+    let to = c.requires.attached in
+    let was = subst (λ (r : RoundsState). IsAttachedBy r to.attached to.fresh to.seen) (sym c.self.view_is) to.is in
+    was.are.apart
 
+-- the short clauses of other names are left
+shorts_left : (c : goal.After-retain-2) → c.retain.new.self.items ≡ filter (λ (s : Short). not (is_among c.args.names.now s.name)) c.self.inside.shorts.items
+shorts_left c =
+    let p : Short → Bool = λ (s : Short). not (is_among c.args.names.now s.name) in
+    filter_same _ p _ (λ x b f k. search rules) c.self.inside.shorts.items c.retain.new.self.items c.retain.ensures.filtered
+
+-- and so are the fresh ones
+those_left : (c : goal.After-retain-2) → c.retain-2.new.self.items ≡ filter (λ (f : Fresh). not (is_among c.args.names.now f.name)) c.self.inside.fresh.items
+those_left c =
+    let p : Fresh → Bool = λ (f : Fresh). not (is_among c.args.names.now f.name) in
+    filter_same _ p _ (λ x b f k. search rules) c.self.inside.fresh.items c.retain-2.new.self.items c.retain-2.ensures.filtered
+
+-- as much room is left
 pub invariant_of-self : goal.invariant_of-self
-invariant_of-self c = record {
-  rising =
-      subst (AreRisingBy (λ (d : NamedClause). d.name)) (sym (kept c))
-      (rising-filter (λ (d : NamedClause). not (is_among c.args.names.now d.name)) (clauses_of_rows c.self.inside.rows.items) c.self.invariant.rising);
-  room_for_all = omega arith;
-  seen_are = c.self.invariant.seen_are;
-}
+unfolding IsAttached
+invariant_of-self c =
+    let to = c.requires.attached in
+    let was = subst (λ (r : RoundsState). IsAttachedBy r to.attached to.fresh to.seen) (sym c.self.view_is) to.is in
+    let fewer_shorts = left_fewer (λ (s : Short). not (is_among c.args.names.now s.name)) c.self.inside.shorts.items c.retain.new.self.items (shorts_left c) in
+    let fewer_fresh = left_fewer (λ (f : Fresh). not (is_among c.args.names.now f.name)) c.self.inside.fresh.items c.retain-2.new.self.items (those_left c) in (
+      roomy_left c.self.inside.variables c.self.inside.table c.remove.new.self c.args.names.now (vec_len c.self.inside.shorts) (vec_capacity c.self.inside.shorts) (vec_len c.self.inside.fresh)
+          (vec_len c.retain.new.self) (vec_capacity c.retain.new.self) (vec_len c.retain-2.new.self) (clauses_without c.args.names.now to.attached) to.seen to.seen c.self.invariant.0
+          (c.remove.ensures.table to.attached to.seen to.seen was.are.table) c.remove.ensures.rows c.remove.ensures.load c.remove.ensures.room (omega (arith, fewer_shorts))
+          c.retain.ensures.capacity (omega (arith, fewer_fresh)),
+      c.self.invariant.1,
+      c.self.invariant.2,
+    )
 
+-- the clauses of the names have left
 pub returns-clause-attached : goal.returns-clause-attached
 unfolding IsAttached
-returns-clause-attached c = λ attached fresh seen is. (
-  kept c ∙ ap (λ clauses. clauses_without c.args.names.now clauses) (ap (λ (r : RoundsState). r.attached) c.self.view_is ∙ is.0),
-  kept_fresh c ∙ ap (λ names. names_without c.args.names.now names) (ap (λ (r : RoundsState). r.fresh) c.self.view_is ∙ is.1),
-  ap (λ (r : RoundsState). r.seen) c.self.view_is ∙ is.2,
-)
+returns-clause-attached c = λ attached fresh seen is.
+    let was = subst (λ (r : RoundsState). IsAttachedBy r attached fresh seen) (sym c.self.view_is) is in
+    attached_left (the_view c.self.inside)
+    (the_view (record {
+      variables = c.self.inside.variables;
+      table = c.remove.new.self;
+      shorts = c.retain.new.self;
+      fresh = c.retain-2.new.self;
+      pool = c.self.inside.pool;
+      seen = c.self.inside.seen;
+      trail = c.self.inside.trail;
+    }))
+    c.args.names.now attached fresh seen c.remove.ensures.table c.remove.ensures.rows c.remove.ensures.notes (shorts_left c)
+    (ap clauses_of_fresh (those_left c) ∙ fresh_left c.args.names.now c.self.inside.fresh.items) refl refl was

@@ -1,0 +1,191 @@
+-- A row after its clause was looked at.
+use Rattle.std.proofs.Common.{◌≡◌, ◌⊎◌, ℕ, ◌<◌, Bool, true, false, cond, not, ◌&&◌, ◌||◌, List, [], ◌∷◌, length, get_or, set, refl, inl, inr, ap, sym, ◌∙◌, subst}
+use Rattle.std.specs.Prelude.{Option, Some, None, option_map, find, nat_lt, slice_get}
+use Rattle.std.specs.List.{list_any}
+use Rattle.std.proofs.lemmas.Bool.{cases_Bool}
+use Rattle.std.proofs.lemmas.List.{map-set, get_or-map, set-get_or}
+use Rattle.std.proofs.lemmas.Option.{same_Some, slice_get-map, slice_get_read, slice_get-get_or}
+use Rattle.lit_base.specs.Literal.{Literal, same}
+use Rattle.lit_base.specs.Trail.{is_false, is_true}
+use Rattle.lit_base.specs.Named.{lits_at}
+use Rattle.lit_base.specs.Rounds.{NamedClause}
+use Rattle.lit_base.specs.Quiet.{IsOneOf}
+use Rattle.lit_base.specs.declared.trail.Entry.{Entry}
+use Rattle.lit_base.specs.declared.name.Name.{Name}
+use Rattle.lit_base.proofs.Known.{same_itself, all_from_none}
+use Rattle.round_prop.specs.declared.note.Note.{Note}
+use Rattle.round_prop.specs.declared.row.Row.{Row}
+use Rattle.round_prop.specs.Linked.{IsPair, IsGuarded, IsLinked, IsPending, IsStep, IsLatest, AreAllBut, place_in}
+use Rattle.round_prop.specs.Noting.{IsNoted, IsNoteOf, IsAdded, HasMoreNotes}
+use Rattle.round_prop.specs.declared.noted.Noted.{Noted}
+use Rattle.round_prop.proofs.NoteSteps.{added_kept, added_sound, added_flagged, added_load}
+use Rattle.std.proofs.Common.{vec_capacity}
+use Rattle.round_prop.specs.Readied.{IsRow, row_names}
+use Rattle.round_prop.specs.Walking.{HasPair}
+use Rattle.round_prop.proofs.LinkSteps.{moved, blocked, stuck_late, stuck_own}
+
+-- what a search finds passes, and is an element
+found_passes : {X : Type 0} (p : X → Bool) (xs : List X) (x : X) → find p xs ≡ Some x → p x ≡ true
+found_passes p [] x is = absurd (none is)
+  where
+    none : {X : Type 0} {x : X} → None ≡ Some x → ⊥
+    none same_option = cc
+found_passes p (y ∷ later) x is = by_test (cases_Bool (p y)) (found_passes p later x)
+  where
+    by_test : (p y ≡ true) ⊎ (p y ≡ false) → (find p later ≡ Some x → p x ≡ true) → p x ≡ true
+    by_test (inl passes) rest = subst (λ z. p z ≡ true) (same_Some y x (sym (ap (λ b. cond b (Some y) (find p later)) passes) ∙ is)) passes
+    by_test (inr fails) rest = rest (sym (ap (λ b. cond b (Some y) (find p later)) fails) ∙ is)
+
+found_among : (p : Literal → Bool) (xs : List Literal) (x : Literal) → find p xs ≡ Some x → list_any (λ m. same m x) xs ≡ true
+found_among p [] x is = absurd (none is)
+  where
+    none : {X : Type 0} {x : X} → None ≡ Some x → ⊥
+    none same_option = cc
+found_among p (y ∷ later) x is = by_test (cases_Bool (p y)) (found_among p later x)
+  where
+    right : (b : Bool) → (b || true) ≡ true
+    right true = refl
+    right false = refl
+
+    by_test : (p y ≡ true) ⊎ (p y ≡ false) → (find p later ≡ Some x → list_any (λ m. same m x) later ≡ true) → list_any (λ m. same m x) (y ∷ later) ≡ true
+    by_test (inl passes) rest =
+        let one : y ≡ x = same_Some y x (sym (ap (λ b. cond b (Some y) (find p later)) passes) ∙ is) in
+        ap (λ b. b || list_any (λ m. same m x) later) (subst (λ z. same y z ≡ true) one (same_itself y))
+    by_test (inr fails) rest = ap (λ b. same y x || b) (rest (sym (ap (λ b. cond b (Some y) (find p later)) fails) ∙ is)) ∙ right (same y x)
+
+neither : (a b : Bool) → not (a || b) ≡ true → (a ≡ false) × (b ≡ false)
+neither true b is = cc
+neither false true is = cc
+neither false false is = (refl, refl)
+
+-- the literal that a clause is linked by instead
+pub link_found : (trail : List Entry) (lits : List Literal) (other m : Literal) → Some m ≡ find (λ k. not (is_false trail k || same k other)) lits →
+    IsOneOf lits m × (same m other ≡ false) × (is_false trail m ≡ false)
+link_found trail lits other m is =
+    let parts = neither (is_false trail m) (same m other) (found_passes (λ k. not (is_false trail k || same k other)) lits m (sym is)) in
+    (found_among (λ k. not (is_false trail k || same k other)) lits m (sym is), parts.1, parts.0)
+
+pub link_none : (trail : List Entry) (lits : List Literal) (other : Literal) → None ≡ find (λ k. not (is_false trail k || same k other)) lits → AreAllBut trail other lits
+link_none trail lits other is = all_from_none (λ k. is_false trail k || same k other) lits (sym is)
+
+-- the row of a name whose literals were read
+row_parts : (clauses : List NamedClause) (trail done : List Entry) (notes : List Note) (name : Name) (a b : Literal) (lits : List Literal) → IsRow clauses trail done notes name a b → lits_at clauses name ≡ Some lits →
+    IsPair lits a b × ((IsLinked trail lits a b × (IsGuarded trail a b ⊎ IsNoted notes name)) ⊎ IsPending trail done lits a b)
+row_parts clauses trail done notes name a b lits row found =
+    subst (λ ls. IsPair ls a b × ((IsLinked trail ls a b × (IsGuarded trail a b ⊎ IsNoted notes name)) ⊎ IsPending trail done ls a b)) (same_Some row.lits lits (sym row.found ∙ found)) (row.pair, row.met)
+
+unnoted : (trail done : List Entry) (notes : List Note) (name : Name) (a b : Literal) (lits : List Literal) → (IsLinked trail lits a b × (IsGuarded trail a b ⊎ IsNoted notes name)) ⊎ IsPending trail done lits a b →
+    IsLinked trail lits a b ⊎ IsPending trail done lits a b
+unnoted trail done notes name a b lits (inl (linked, _)) = inl linked
+unnoted trail done notes name a b lits (inr pending) = inr pending
+
+module _ (clauses : List NamedClause) (trail done next : List Entry) (notes : List Note) (name : Name) (own other : Literal) (step : IsStep trail done next own) (row : IsRow clauses trail done notes name own other) where
+  -- the other link was true before
+  pub visit_blocked : (is_true trail other && nat_lt (place_in trail other) (place_in trail own)) ≡ true → IsRow clauses trail next notes name own other
+  visit_blocked is =
+      let test = both (is_true trail other) (nat_lt (place_in trail other) (place_in trail own)) is in
+      let right = blocked trail done next own step row.lits other row.pair (unnoted trail done notes name own other row.lits row.met) test.0 test.1 in
+      record { lits = row.lits; found = row.found; pair = row.pair; met = inl (right.0, inl right.1) }
+    where
+      both : (a b : Bool) → (a && b) ≡ true → (a ≡ true) × (b ≡ true)
+      both true b is = (refl, is)
+      both false b is = cc
+
+  module _ (lits : List Literal) (found : lits_at clauses name ≡ Some lits) where
+    parts : IsPair lits own other × ((IsLinked trail lits own other × (IsGuarded trail own other ⊎ IsNoted notes name)) ⊎ IsPending trail done lits own other)
+    parts = row_parts clauses trail done notes name own other lits row found
+
+    -- there is another literal that isn't false
+    pub visit_moved : (m : Literal) → Some m ≡ find (λ k. not (is_false trail k || same k other)) lits → IsRow clauses trail next notes name m other
+    visit_moved m is =
+        let one = link_found trail lits other m is in
+        record {
+          lits = lits;
+          found = found;
+          pair = record { first = one.0; second = parts.0.second; apart = one.1 };
+          met = by_case (moved trail done next own step lits other parts.0 (unnoted trail done notes name own other lits parts.1) m one.0 one.1 one.2);
+        }
+      where
+        by_case : (IsLinked trail lits m other × IsGuarded trail m other) ⊎ IsPending trail next lits m other → (IsLinked trail lits m other × (IsGuarded trail m other ⊎ IsNoted notes name)) ⊎ IsPending trail next lits m other
+        by_case (inl right) = inl (right.0, inl right.1)
+        by_case (inr pending) = inr pending
+
+    -- another one became false later
+    pub visit_late : (last : Literal) → None ≡ find (λ k. not (is_false trail k || same k other)) lits → IsLatest trail lits other last → nat_lt (place_in trail own) (place_in trail last) ≡ true → IsRow clauses trail next notes name last other
+    visit_late last none latest later = record {
+      lits = lits;
+      found = found;
+      pair = record { first = latest.held; second = parts.0.second; apart = latest.apart };
+      met = inr (stuck_late trail done next own step lits other parts.0 (unnoted trail done notes name own other lits parts.1) last (link_none trail lits other none) latest later);
+    }
+
+    -- none did, and the clause is noted
+    pub visit_noted : (last : Literal) (more : List Note) → None ≡ find (λ k. not (is_false trail k || same k other)) lits → IsLatest trail lits other last → nat_lt (place_in trail own) (place_in trail last) ≡ false →
+        IsNoted more name → IsRow clauses trail next more name own other
+    visit_noted last more none latest most noted = record {
+      lits = lits;
+      found = found;
+      pair = parts.0;
+      met = inl (stuck_own trail done next own step lits other parts.0 (unnoted trail done notes name own other lits parts.1) last (link_none trail lits other none) latest most, inr noted);
+    }
+
+-- the pair of a name whose literals were read
+pub pair_at : (clauses : List NamedClause) (name : Name) (a b : Literal) (lits : List Literal) → HasPair clauses name a b → lits_at clauses name ≡ Some lits → IsPair lits a b
+pair_at clauses name a b lits has found = subst (λ ls. IsPair ls a b) (same_Some has.lits lits (sym has.found ∙ found)) has.pair
+
+pub pair_found : (clauses : List NamedClause) (trail : List Entry) (name : Name) (own other m : Literal) (lits : List Literal) → HasPair clauses name own other → lits_at clauses name ≡ Some lits →
+    Some m ≡ find (λ k. not (is_false trail k || same k other)) lits → HasPair clauses name m other
+pair_found clauses trail name own other m lits has found is =
+    let one = link_found trail lits other m is in
+    record { lits = lits; found = found; pair = record { first = one.0; second = (pair_at clauses name own other lits has found).second; apart = one.1 } }
+
+pub pair_last : (clauses : List NamedClause) (trail : List Entry) (name : Name) (own other last : Literal) (lits : List Literal) → HasPair clauses name own other → lits_at clauses name ≡ Some lits →
+    IsLatest trail lits other last → HasPair clauses name last other
+pair_last clauses trail name own other last lits has found latest =
+    record { lits = lits; found = found; pair = record { first = latest.held; second = (pair_at clauses name own other lits has found).second; apart = latest.apart } }
+
+-- the note of a clause all of whose literals but one are false
+pub note_sound : (clauses : List NamedClause) (trail : List Entry) (name : Name) (own other : Literal) (lits : List Literal) (row : ℕ) → HasPair clauses name own other → lits_at clauses name ≡ Some lits →
+    None ≡ find (λ k. not (is_false trail k || same k other)) lits → IsNoteOf trail clauses (record { name = name; lit = Some other; row = row })
+note_sound clauses trail name own other lits row has found none =
+    record { lits = lits; found = found; tells = record { held = (pair_at clauses name own other lits has found).second; others = link_none trail lits other none } }
+
+-- the name of a row that was read
+pub name_read : (rows : List Row) (i : ℕ) (r : Row) → i < length rows → r ≡ get_or rows i r → slice_get (row_names rows) i ≡ Some r.name
+name_read rows i r inside is = slice_get-map (λ (row : Row). row.name) rows i ∙ ap (λ (o : Option Row). option_map (λ (row : Row). row.name) o) (slice_get_read rows (length rows) i r refl inside is)
+
+-- the names stay, where the advice of a row changes
+pub names_kept : (rows : List Row) (i : ℕ) (r : Row) (place : ℕ) → i < length rows → r ≡ get_or rows i r → row_names (set rows i (record r { place = place })) ≡ row_names rows
+names_kept rows i r place inside is =
+    let names = row_names rows in
+    map-set (λ (row : Row). row.name) rows i (record r { place = place })
+    ∙ (ap (λ n. set names i n) (ap (λ (row : Row). row.name) is ∙ sym (get_or-map (λ (row : Row). row.name) rows i r r.name inside)) ∙ set-get_or names i r.name)
+
+-- the same of a row that is read by its place
+pub named_at : (rows : List Row) (i : ℕ) (d : Row) → i < length rows → slice_get (row_names rows) i ≡ Some (get_or rows i d).name
+named_at rows i d inside = slice_get-map (λ (row : Row). row.name) rows i ∙ ap (λ (o : Option Row). option_map (λ (row : Row). row.name) o) (slice_get-get_or rows i d inside)
+
+pub name_is : (rows : List Row) (i : ℕ) (d : Row) (name : Name) → i < length rows → slice_get (row_names rows) i ≡ Some name → (get_or rows i d).name ≡ name
+name_is rows i d name inside named = same_Some (get_or rows i d).name name (sym (named_at rows i d inside) ∙ named)
+
+pub names_kept_at : (rows : List Row) (i : ℕ) (d : Row) (place : ℕ) → i < length rows → row_names (set rows i (record { name = (get_or rows i d).name; place = place })) ≡ row_names rows
+names_kept_at rows i d place inside =
+    let names = row_names rows in
+    let name = (get_or rows i d).name in
+    map-set (λ (row : Row). row.name) rows i (record { name = name; place = place })
+    ∙ (ap (λ n. set names i n) (sym (get_or-map (λ (row : Row). row.name) rows i d name inside)) ∙ set-get_or names i name)
+
+-- notes that came in by a visit
+pub more_by_added : (trail : List Entry) (clauses : List NamedClause) (names : List Name) (before after : Noted) (note : Note) → IsAdded before.flags.items before.notes.items after.flags.items after.notes.items note →
+    slice_get names note.row ≡ Some note.name → IsNoteOf trail clauses note → vec_capacity after.notes ≡ vec_capacity before.notes → vec_capacity after.flags ≡ vec_capacity before.flags → HasMoreNotes trail clauses names before after
+more_by_added trail clauses names before after note added named sound notes_room flags_room =
+    let load = added_load before.flags.items before.notes.items after.flags.items after.notes.items note added in
+    record {
+      kept = λ name noted. added_kept before.flags.items before.notes.items after.flags.items after.notes.items note name added noted;
+      sound = λ all. added_sound trail clauses before.flags.items before.notes.items after.flags.items after.notes.items note added sound all;
+      flagged = λ flagged. added_flagged names before.flags.items before.notes.items after.flags.items after.notes.items note named added flagged;
+      load = load.0;
+      flags = load.1;
+      notes_room = notes_room;
+      flags_room = flags_room;
+    }

@@ -1,0 +1,5 @@
+use Rattle.round_prop.proofs.tests.play.Given as goal
+
+-- the ledger is that of the blank
+abbrev pub ghosts-play_on : goal.ghosts-play_on
+ghosts-play_on g a = record { name = a.blank.name; parts = a.blank.parts }

@@ -1,0 +1,61 @@
+use Rattle.std.proofs.Common.{◌-◌, true, false, length, ◌∙◌, arith}
+use Rattle.lit_base.specs.Held.{clauses_of}
+use Rattle.round_prop.specs.Readied.{row_names}
+use Rattle.round_prop.proofs.LoopSteps.{one_step, walk_left, more_named}
+use Rattle.round_prop.proofs.TableSteps.{on_still, flags_kept, same_rows-trans, same_rows-refl, more_notes-trans, more_notes-refl}
+use Rattle.round_prop.proofs.walk.walk_all.Goals as goal
+
+pub loop-init : goal.loop-init
+loop-init g c = record {
+  on = c.requires.walk;
+  walk = λ done next most step flagged walk.
+      walk_left (clauses_of c.args.pool.now) c.args.trail.now.entries done next c.args.own (length c.args.table.now.links.nodes.items) (length c.args.table.now.links.nodes.items - 0) c.args.steps.now most c.args.table.now (omega arith) walk;
+  notes = more_notes-refl c.args.trail.now.entries (clauses_of c.args.pool.now) (row_names c.args.table.now.rows.items) c.args.table.now.noted;
+  same = same_rows-refl c.args.table.now;
+  steps = omega arith;
+}
+
+pub step-requires-clause-walk : goal.step-requires-clause-walk
+step-requires-clause-walk g c = c.loop.invariant.on
+
+pub step-requires-clause-flags : goal.step-requires-clause-flags
+step-requires-clause-flags g c = flags_kept c.args.table.now c.loop.table c.loop.invariant.same c.requires.flags
+
+pub step-requires-clause-wide : goal.step-requires-clause-wide
+step-requires-clause-wide g c = c.loop.invariant.same.heads ∙ c.requires.wide
+
+pub step-requires-clause-room : goal.step-requires-clause-room
+step-requires-clause-room g c = omega (arith, c.loop.invariant.same.load, c.loop.invariant.same.notes_room, c.requires.room)
+
+-- the list is empty
+pub returns-then-not-step-clause-walk : goal.returns-then-not-step-clause-walk
+returns-then-not-step-clause-walk g c = λ done next most step flagged walk.
+    one_step (clauses_of c.args.pool.now) c.args.trail.now.entries done next c.args.own c.args.table.now c.loop.table c.step.new.table c.step.result false (length c.args.table.now.links.nodes.items) c.loop.counter c.loop.steps c.step.new.steps most
+    c.step.ensures.walk c.if-not-step.true (omega (arith, c.loop-test.true, c.len-end.ensures)) step c.loop.invariant.same c.loop.invariant.notes flagged (c.loop.invariant.walk done next most step flagged walk)
+
+pub returns-then-not-step-clause-notes : goal.returns-then-not-step-clause-notes
+returns-then-not-step-clause-notes g c =
+    more_notes-trans c.args.trail.now.entries (clauses_of c.args.pool.now) (row_names c.args.table.now.rows.items) c.args.table.now.noted c.loop.table.noted c.step.new.table.noted c.loop.invariant.notes
+    (more_named c.args.trail.now.entries (clauses_of c.args.pool.now) c.args.table.now c.loop.table c.step.new.table c.loop.invariant.same c.step.ensures.notes)
+
+pub returns-then-not-step-clause-same : goal.returns-then-not-step-clause-same
+returns-then-not-step-clause-same g c = same_rows-trans c.args.table.now c.loop.table c.step.new.table c.loop.invariant.same c.step.ensures.same
+
+-- a node was met
+pub loop-preserved : goal.loop-preserved
+loop-preserved g c = record {
+  on = on_still (clauses_of c.args.pool.now) c.args.trail.now.entries c.args.own c.loop.table c.step.new.table c.step.result c.loop.steps c.step.new.steps c.loop.invariant.on c.if-not-step.false c.step.ensures.walk c.step.ensures.notes c.step.ensures.same.names;
+  walk = λ done next most step flagged walk.
+      one_step (clauses_of c.args.pool.now) c.args.trail.now.entries done next c.args.own c.args.table.now c.loop.table c.step.new.table c.step.result true (length c.args.table.now.links.nodes.items) c.loop.counter c.loop.steps c.step.new.steps most
+      c.step.ensures.walk c.if-not-step.false (omega (arith, c.loop-test.true, c.len-end.ensures)) step c.loop.invariant.same c.loop.invariant.notes flagged (c.loop.invariant.walk done next most step flagged walk);
+  notes = more_notes-trans c.args.trail.now.entries (clauses_of c.args.pool.now) (row_names c.args.table.now.rows.items) c.args.table.now.noted c.loop.table.noted c.step.new.table.noted c.loop.invariant.notes
+      (more_named c.args.trail.now.entries (clauses_of c.args.pool.now) c.args.table.now c.loop.table c.step.new.table c.loop.invariant.same c.step.ensures.notes);
+  same = same_rows-trans c.args.table.now c.loop.table c.step.new.table c.loop.invariant.same c.step.ensures.same;
+  steps = omega (arith, c.loop.invariant.steps, c.step.ensures.steps);
+}
+
+-- all nodes were met
+pub returns-clause-walk : goal.returns-clause-walk
+returns-clause-walk g c = λ done next most step flagged walk.
+    walk_left (clauses_of c.args.pool.now) c.args.trail.now.entries done next c.args.own (length c.args.table.now.links.nodes.items - c.loop.counter) 0 c.loop.steps most c.loop.table
+    (omega (arith, c.loop-test.false, c.len-end.ensures)) (c.loop.invariant.walk done next most step flagged walk)
