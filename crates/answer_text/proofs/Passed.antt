@@ -1,6 +1,6 @@
 -- Lemmas on a text that goes through a buffer to the answer port.
-use Rattle.std.proofs.Common.{◌≡◌, ℕ, List, [], ◌++◌, Option, Some, None, sym, ap, refl, ◌∙◌, append_assoc, append-nil, subst, arith}
-use Rattle.std.specs.Prelude.{Result, Ok, Err, IsErrAnd}
+use Rattle.std.proofs.Common.{◌≡◌, ℕ, ◌+◌, ◌<◌, List, [], ◌∷◌, ◌++◌, Option, Some, None, length, get_or, drop, sym, ap, refl, ◌∙◌, append_assoc, append-nil, add-one, drop-cons, subst, arith}
+use Rattle.std.specs.Prelude.{Result, Ok, Err, IsErrAnd, flat_map}
 use Rattle.std.specs.Io.KnownBytes.{append_known}
 use Rattle.desk_io.specs.declared.Port.TheVariants.{Answer}
 use Rattle.desk_io.specs.declared.PortFault.{PortFault}
@@ -115,3 +115,12 @@ pub IsUnderway-ended : {text held : List ℕ} {before mid after : OutputsTold} (
 IsUnderway-ended {held = held} {before = before} {after = after} (Ok tt) front back =
     subst (λ xs. WritesWhole Answer xs before after fine) (ap (λ xs. front.done ++ xs) (sym (append-nil held)) ∙ front.parts) (WritesWhole-then front.wrote back)
 IsUnderway-ended {held = held} (Err fault) front back = stopped_in front.done held [] front.wrote front.parts back
+
+-- of a text in parts, the part of the item at this place comes next
+pub part_comes : {X : Type 0} (f : X → List ℕ) (xs : List X) (x : X) (i : ℕ) → i < length xs → x ≡ get_or xs i x → flat_map f (drop i xs) ≡ f x ++ flat_map f (drop (i + 1) xs)
+part_comes f xs x i below is =
+    ap (λ ys. flat_map f ys) (drop-cons xs i x below ∙ ap (λ k. get_or xs i x ∷ drop k xs) (sym (add-one i))) ∙ ap (λ y. f y ++ flat_map f (drop (i + 1) xs)) (sym is)
+
+-- nothing was written yet, and memory ran out
+pub nothing_written : (text : List ℕ) (now : OutputsTold) → WritesWhole Answer text now now (Err NoMemory)
+nothing_written text now = let front = IsUnderway-started [] text now in WritesWhole-front text front.parts front.wrote tt

@@ -3,3 +3,4 @@ pub mod Answer
 pub mod Writing
 pub mod Gathering
 pub mod Laws
+pub mod Summary

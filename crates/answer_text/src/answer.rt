@@ -7,7 +7,7 @@ ghost use Rattle.answer_text.specs.Answer.{answer_text, model_lines, verdict_lin
 ghost use Rattle.answer_text.specs.Gathering.{Passes};
 ghost use Rattle.answer_text.specs.Writing.{WritesAnswer};
 
-use crate::buffer::{empty_buffer, flush, push_text};
+use crate::buffer::{empty_buffer, ended, flush, push_text};
 use crate::trace::put_trace;
 use crate::values::put_model;
 use crew::{Outcome, Verdict};
@@ -37,11 +37,7 @@ pub fn write_answer<O: Outputs>(
     requires model { outcome.now.verdict ≡ Sat → IsSome outcome.now.model }
     ensures { WritesAnswer (answer_text outcome.now settings.now trace) (O.told outputs.old) (O.told outputs.new) result }
 {
-    match write_gathered(alloc, outcome, settings, trace, outputs) {
-        Ok(()) => Ok(()),
-        Err(PortFault::Failed) => Err(Stop::WriteFault),
-        Err(PortFault::NoMemory) => Err(Stop::NoMemory),
-    }
+    ended(write_gathered(alloc, outcome, settings, trace, outputs))
 }
 
 /// Writes the answer of a run through a buffer.
@@ -77,7 +73,7 @@ fn put_answer<O: Outputs>(
 }
 
 /// The `s` line of a verdict.
-fn verdict_line(verdict: Verdict) -> &'static [u8]
+pub(crate) fn verdict_line(verdict: Verdict) -> &'static [u8]
     ensures { result.now ≡ verdict_line verdict }
 {
     match verdict {

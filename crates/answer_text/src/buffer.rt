@@ -1,4 +1,5 @@
 ghost use Rattle.std.specs.Prelude.{◌≡◌, [], ◌++◌, decimal, IfOk, OnOk};
+ghost use Rattle.log_merge.specs.Writing.{on_port};
 ghost use Rattle.desk_io.specs.declared.Port.TheVariants.{Answer};
 ghost use Rattle.desk_io.specs.Outputs.{WritesWhole};
 ghost use Rattle.answer_text.specs.Gathering.{Passes};
@@ -6,6 +7,7 @@ ghost use Rattle.answer_text.specs.Gathering.{Passes};
 use desk_io::{Outputs, Port, PortFault, write_whole};
 use itoa::Buffer;
 use lit_base::NoMemory;
+use log_merge::Stop;
 use std::alloc::Global;
 
 /// So many bytes are gathered before they are written.
@@ -57,4 +59,15 @@ pub(crate) fn push_text(buffer: &mut Vec<u8>, text: &[u8]) -> Result<(), NoMemor
 {
     buffer.extend_from_slice(text)?;
     Ok(())
+}
+
+/// How writing ended, in the words of a run.
+pub(crate) fn ended(written: Result<(), PortFault>) -> Result<(), Stop>
+    ensures { on_port result ≡ written }
+{
+    match written {
+        Ok(()) => Ok(()),
+        Err(PortFault::Failed) => Err(Stop::WriteFault),
+        Err(PortFault::NoMemory) => Err(Stop::NoMemory),
+    }
 }

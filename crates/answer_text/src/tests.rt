@@ -14,6 +14,8 @@ use solo_core::Settings;
 use std::alloc::Global;
 use std::test::Fail;
 
+mod others;
+
 /// The settings of so many cores, with this share.
 fn settings(cores: u32, share: u32) -> Settings
     requires some_cores { 1 ≤ cores }

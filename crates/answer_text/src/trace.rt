@@ -95,7 +95,7 @@ fn push_row(buffer: &mut Vec<u8>, row: &TraceRow) -> Result<(), NoMemory>
 }
 
 /// Adds the line that names the winner.
-fn push_winner(buffer: &mut Vec<u8>, winner: Option<u32>) -> Result<(), NoMemory>
+pub(crate) fn push_winner(buffer: &mut Vec<u8>, winner: Option<u32>) -> Result<(), NoMemory>
     ensures { OnOk result (buffer.new.items ≡ buffer.old.items ++ winner_line winner) }
 {
     let Some(core) = winner else {

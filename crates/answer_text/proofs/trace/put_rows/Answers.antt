@@ -1,7 +1,8 @@
-use Rattle.std.proofs.Common.{◌≡◌, ℕ, ◌+◌, ◌<◌, List, ◌∷◌, ◌++◌, length, get_or, drop, ap, sym, ◌∙◌, add-one, drop-cons}
+use Rattle.std.proofs.Common.{◌≡◌, ℕ, ◌+◌, ◌<◌, List, ◌++◌, length, get_or, drop}
+use Rattle.std.proofs.lemmas.List.{get_or_default}
 use Rattle.crew.specs.declared.trace.TraceRow.{TraceRow}
 use Rattle.answer_text.specs.Trace.{era_line, era_lines}
-use Rattle.answer_text.proofs.Passed.{IsUnderway-passed, IsUnderway-stopped, IsUnderway-refused}
+use Rattle.answer_text.proofs.Passed.{IsUnderway-passed, IsUnderway-stopped, IsUnderway-refused, part_comes}
 use Rattle.answer_text.proofs.trace.put_rows.Goals as goal
 
 -- what stands for a row past the end
@@ -10,7 +11,7 @@ no_row = record { period = 0; core = 0; conflicts = 0; volume = 0; posted = 0; n
 
 -- the first of the lines from this row on
 row_comes : (rows : List TraceRow) (i : ℕ) → i < length rows → era_lines (drop i rows) ≡ era_line (get_or rows i no_row) ++ era_lines (drop (i + 1) rows)
-row_comes rows i below = ap era_lines (drop-cons rows i no_row below ∙ ap (λ k. get_or rows i no_row ∷ drop k rows) (sym (add-one i)))
+row_comes rows i below = part_comes era_line rows (get_or rows i no_row) i below (get_or_default rows i no_row (get_or rows i no_row) below)
 
 -- memory ran out at a row
 pub returns-in_err-push_row : goal.returns-in_err-push_row
