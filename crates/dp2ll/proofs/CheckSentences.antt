@@ -9,8 +9,8 @@ use Rattle.cnf_text.specs.Reading.{formula_of}
 use Rattle.lrat_text.specs.Reading.{Steps, proof_steps}
 use Rattle.lrat_check.specs.Laws.{FaultRefuses}
 use Rattle.crew.specs.declared.outcome.Verdict.TheVariants.{Unknown}
-use Rattle.dp2ll.specs.declared.words.Job.{Job}
-use Rattle.dp2ll.specs.declared.words.Job.TheVariants.{Solve, Check}
+use Rattle.job_words.specs.declared.job.Job.{Job}
+use Rattle.job_words.specs.declared.job.Job.TheVariants.{Solve, Check, Gen, Race}
 use Rattle.dp2ll.specs.declared.finding.Flaw.{Flaw}
 use Rattle.dp2ll.specs.declared.finding.Finding.{Finding}
 use Rattle.dp2ll.specs.declared.finding.Finding.TheVariants.{Verified, Flawed}
@@ -21,7 +21,7 @@ use Rattle.dp2ll.specs.declared.ending.ProofStop.TheVariants as proof
 use Rattle.dp2ll.specs.declared.ending.WriteStop.{WriteStop}
 use Rattle.dp2ll.specs.declared.ending.WriteStop.TheVariants as writing
 use Rattle.dp2ll.specs.declared.ending.Ending.{Ending}
-use Rattle.dp2ll.specs.declared.ending.Ending.TheVariants.{Answered, Judged, Usage, Unread, Unjudged, Unwritten, NoMemory}
+use Rattle.dp2ll.specs.declared.ending.Ending.TheVariants.{Answered, Judged, Written, Usage, Unread, Unjudged, Unwritten, NoMemory}
 use Rattle.dp2ll.specs.Ending.{read_status, proof_status, write_status, finding_status, finding_text, status_of, complaint_of}
 use Rattle.dp2ll.specs.Complaint.{Tells, Complains}
 use Rattle.dp2ll.specs.Reading.{bytes_taken}
@@ -39,19 +39,33 @@ on_judged : (job : Option Job) (before after : Desk) (finding : Finding) (Q : Li
     → ServesJob job before after (Judged finding)
     → ((file proof : List ℕ) → ChecksProof file proof before after (Judged finding) → Q file proof) → OnCheck job Q
 on_judged None before after finding Q serves gives = absurd serves
-on_judged (Some (Solve file log settings trace workers)) before after finding Q serves gives = absurd serves.cause
+on_judged (Some (Solve file settings workers log trace)) before after finding Q serves gives = absurd serves.cause
 on_judged (Some (Check file proof)) before after finding Q serves gives = gives file proof serves
+on_judged (Some (Gen kind n seed)) before after finding Q serves gives = absurd serves.cause
+on_judged (Some (Race kind n settings)) before after finding Q serves gives = absurd serves.cause
 
 -- `check` runs no core
 never_answers : (job : Option Job) (before after : Desk) → IsCheck job → ServesJob job before after (Answered Unknown) → ⊥
 never_answers None before after is serves = is
-never_answers (Some (Solve file log settings trace workers)) before after is serves = is
+never_answers (Some (Solve file settings workers log trace)) before after is serves = is
 never_answers (Some (Check file proof)) before after is serves = serves.cause
+never_answers (Some (Gen kind n seed)) before after is serves = is
+never_answers (Some (Race kind n settings)) before after is serves = is
+
+-- `check` makes no formula
+never_makes : (job : Option Job) (before after : Desk) → IsCheck job → ServesJob job before after Written → ⊥
+never_makes None before after is serves = is
+never_makes (Some (Solve file settings workers log trace)) before after is serves = is
+never_makes (Some (Check file proof)) before after is serves = serves.cause
+never_makes (Some (Gen kind n seed)) before after is serves = is
+never_makes (Some (Race kind n settings)) before after is serves = is
 
 -- where `check` ends with status 0 the proof was verified
 verified_at : (run : Run) (h : Headline run) → IsCheck run.job → Tells (complaint_of h.how) (run.before.at Complaint) (run.after.at Complaint)
-    → (h.how ≡ Answered Unknown) ⊎ (h.how ≡ Judged Verified) → EndsBy run (Judged Verified)
-verified_at run h is tells (inr same) = ends_by run h (Judged Verified) same tells (λ refused. refused)
+    → (h.how ≡ Answered Unknown) ⊎ ((h.how ≡ Judged Verified) ⊎ (h.how ≡ Written)) → EndsBy run (Judged Verified)
+verified_at run h is tells (inr (inl same)) = ends_by run h (Judged Verified) same tells (λ refused. refused)
+verified_at run h is tells (inr (inr same)) =
+    absurd (never_makes run.job (desk_before run) (desk_after run) is (ends_by run h Written same tells (λ refused. refused)).serves)
 verified_at run h is tells (inl same) =
     absurd (never_answers run.job (desk_before run) (desk_after run) is (ends_by run h (Answered Unknown) same tells (λ refused. refused)).serves)
 
@@ -163,6 +177,7 @@ check_answers laws refuses run file bytes proof (Judged finding) status told cal
     rw (told_formula laws run file proof served.between finding finds bytes told)
     (λ fine other is. finding_decides refuses run finds.cnf (proof_steps other) finding status
     (told_finding finds.cnf (run.inputs_before.held Proof proof) (run.inputs_after.at Proof).left finding other is finds.found))
+check_answers laws refuses run file bytes proof Written status told calm tells served = absurd served.cause
 check_answers laws refuses run file bytes proof Usage status told calm tells served = absurd served.cause
 check_answers laws refuses run file bytes proof (Unread stop) status told calm tells served =
     calm_read laws run file bytes proof served.between stop status told calm tells served.cause

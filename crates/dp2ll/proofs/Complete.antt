@@ -6,13 +6,13 @@ use Rattle.desk_io.specs.Told.{Rose}
 use Rattle.desk_io.specs.declared.Slot.TheVariants.{Formula}
 use Rattle.desk_io.specs.declared.Port.TheVariants.{Complaint}
 use Rattle.cnf_text.specs.Reading.{formula_of}
-use Rattle.dp2ll.specs.declared.words.Job.TheVariants.{Solve}
+use Rattle.job_words.specs.declared.job.Job.TheVariants.{Solve}
 use Rattle.dp2ll.specs.declared.ending.ReadStop.{ReadStop}
 use Rattle.dp2ll.specs.declared.ending.ReadStop.TheVariants as reading
 use Rattle.dp2ll.specs.declared.ending.WriteStop.{WriteStop}
 use Rattle.dp2ll.specs.declared.ending.WriteStop.TheVariants as writing
 use Rattle.dp2ll.specs.declared.ending.Ending.{Ending}
-use Rattle.dp2ll.specs.declared.ending.Ending.TheVariants.{Answered, Judged, Usage, Unread, Unjudged, Unwritten, NoMemory}
+use Rattle.dp2ll.specs.declared.ending.Ending.TheVariants.{Answered, Judged, Written, Usage, Unread, Unjudged, Unwritten, NoMemory}
 use Rattle.dp2ll.specs.Ending.{read_status, write_status, status_of, complaint_of}
 use Rattle.dp2ll.specs.Outcome.{answer_of}
 use Rattle.dp2ll.specs.Logging.{LogTold, LogsFault}
@@ -62,6 +62,7 @@ solve_answers laws run file bytes log settings trace (Answered verdict) status t
     rw (read_told laws.ends bytes (run.inputs_before.held Formula file) (run.inputs_after.at Formula).left cause.cnf told cause.read)
     (λ fine. inl (record { status = rw cause.answered.outcome status; texts = cause.answered.texts }))
 solve_answers laws run file bytes log settings trace (Judged finding) status told calm tells cause = absurd cause
+solve_answers laws run file bytes log settings trace Written status told calm tells cause = absurd cause
 solve_answers laws run file bytes log settings trace Usage status told calm tells cause = absurd cause
 solve_answers laws run file bytes log settings trace (Unread stop) status told calm tells cause =
     calm_read laws run bytes log (run.inputs_before.held Formula file) settings trace stop status told calm cause.stops tells
@@ -75,7 +76,7 @@ solve_answers laws run file bytes log settings trace NoMemory status told calm t
 serves_answers : KnowsReading → (run : Run) (file bytes : List ℕ) (log : Option (List ℕ)) (settings : Settings) (trace : Bool) (workers : ℕ) (how : Ending)
     → run.inputs_before.held Formula file ≡ Some bytes
     → ¬ Rose (run.inputs_before.at Formula).faults (run.inputs_after.at Formula).faults
-    → Serves (Some (Solve file log settings trace workers)) (desk_before run) (desk_after run) how
+    → Serves (Some (Solve file settings workers log trace)) (desk_before run) (desk_after run) how
     → Complains (complaint_of how) (status_of how) (run.before.at Complaint) (run.after.at Complaint) run.status
     → AnswersFile (formula_of bytes) log settings trace run
 serves_answers laws run file bytes log settings trace workers how told calm serves (inr (five, front)) = at_five run bytes log settings trace five

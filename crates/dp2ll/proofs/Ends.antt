@@ -2,7 +2,7 @@
 use Rattle.std.proofs.Common.{◌≡◌, ℕ, List, inl, inr, sym, subst, ◌∙◌, Option, Some, None}
 use Rattle.desk_io.specs.Told.{PortTold}
 use Rattle.desk_io.specs.declared.Port.TheVariants.{Complaint}
-use Rattle.dp2ll.specs.declared.words.Job.{Job}
+use Rattle.job_words.specs.declared.job.Job.{Job}
 use Rattle.dp2ll.specs.declared.ending.Ending.{Ending}
 use Rattle.dp2ll.specs.Ending.{status_of, complaint_of}
 use Rattle.dp2ll.specs.Complaint.{Tells, Complains}

@@ -5,7 +5,6 @@ pub mod Judged
 pub mod Checked
 pub mod Logged
 pub mod Answered
-pub mod Options
 pub mod Statuses
 pub mod Whole
 pub mod Ports
@@ -13,4 +12,5 @@ pub mod Complete
 pub mod Ends
 pub mod SolveSentences
 pub mod CheckSentences
+pub mod TextSentences
 pub mod Sentences

@@ -2,20 +2,22 @@
 use Rattle.std.proofs.Common.{◌≡◌, ◌⊎◌, ℕ, Bool, List, [], append-nil, ap, inl, inr, rules, Option, Some, None}
 use Rattle.solo_core.specs.declared.sheet.Settings.{Settings}
 use Rattle.crew.specs.Log.{log_text}
-use Rattle.dp2ll.specs.declared.words.Job.{Job}
-use Rattle.dp2ll.specs.declared.words.Job.TheVariants.{Solve, Check}
+use Rattle.job_words.specs.declared.job.Job.{Job}
+use Rattle.job_words.specs.declared.job.Job.TheVariants.{Solve, Check, Gen, Race}
 use Rattle.crew.specs.declared.outcome.Verdict.{Verdict}
 use Rattle.dp2ll.specs.declared.ending.WriteStop.{WriteStop}
 use Rattle.dp2ll.specs.declared.ending.WriteStop.TheVariants as writing
 use Rattle.dp2ll.specs.declared.ending.Ending.{Ending}
-use Rattle.dp2ll.specs.declared.ending.Ending.TheVariants.{Answered, Judged, Usage, Unread, Unjudged, Unwritten, NoMemory}
+use Rattle.dp2ll.specs.declared.ending.Ending.TheVariants.{Answered, Judged, Written, Usage, Unread, Unjudged, Unwritten, NoMemory}
 use Rattle.desk_io.specs.Told.{InputsTold}
 use Rattle.dp2ll.specs.declared.finding.Finding.{Finding}
+use Rattle.dp2ll.specs.declared.finding.Finding.TheVariants.{Verified}
 use Rattle.dp2ll.specs.Ending.{status_of, finding_text}
 use Rattle.dp2ll.specs.Outcome.{answer_of}
 use Rattle.dp2ll.specs.Logging.{LogTold, LogsFault, LogsPart}
 use Rattle.dp2ll.specs.Answering.{Page, WritesBoth, WritesFronts, CutsTexts}
-use Rattle.dp2ll.specs.Serving.{Desk, SolveCause, CheckCause, Serves}
+use Rattle.dp2ll.specs.Making.{gen_text, race_text}
+use Rattle.dp2ll.specs.Serving.{Desk, SolveCause, CheckCause, TextCause, Serves}
 use Rattle.dp2ll.specs.Headline.{WritesOwn, SaysOwn, LeavesOwn, HasNoLog, IsSilent}
 
 -- whole texts are fronts
@@ -50,6 +52,7 @@ solved_texts file log settings trace before after (Answered verdict) cause = inr
       cause.answered.texts;
 })
 solved_texts file log settings trace before after (Judged finding) cause = absurd cause
+solved_texts file log settings trace before after Written cause = absurd cause
 solved_texts file log settings trace before after Usage cause = absurd cause
 solved_texts file log settings trace before after (Unread stop) cause = inl cause.untouched
 solved_texts file log settings trace before after (Unjudged stop) cause = absurd cause
@@ -70,6 +73,7 @@ checked_texts file proof before between after (Judged finding) cause = inr (reco
   finds = cause.finds;
   texts = whole_front None (finding_text finding) (finding_text finding) before.page after.page cause.says;
 })
+checked_texts file proof before between after Written cause = absurd cause
 checked_texts file proof before between after Usage cause = absurd cause
 checked_texts file proof before between after (Unread stop) cause = inl cause.untouched
 checked_texts file proof before between after (Unjudged stop) cause = inl cause.untouched
@@ -81,12 +85,25 @@ checked_texts file proof before between after (Unwritten stop) cause = inr (reco
 })
 checked_texts file proof before between after NoMemory cause = absurd cause
 
+-- the answer after a command that writes a text
+written_texts : (text : List ℕ) (before after : Desk) (how : Ending) → TextCause text before after how → WritesFronts None text text before.page after.page
+written_texts text before after (Answered verdict) cause = absurd cause
+written_texts text before after (Judged finding) cause = absurd cause
+written_texts text before after Written cause = whole_front None text text before.page after.page cause
+written_texts text before after Usage cause = absurd cause
+written_texts text before after (Unread stop) cause = absurd cause
+written_texts text before after (Unjudged stop) cause = absurd cause
+written_texts text before after (Unwritten stop) cause = cut_texts None text text before.page after.page stop cause
+written_texts text before after NoMemory cause = absurd cause
+
 -- log and answer after any words
 pub served_texts : (job : Option Job) (before after : Desk) (how : Ending) → Serves job before after how
     → (after.page ≡ before.page) ⊎ LeavesOwn job before after
 served_texts None before after how refuses = inl (ap (λ (d : Desk). d.page) refuses.untouched)
-served_texts (Some (Solve file log settings trace workers)) before after how (inl solves) = solved_texts file log settings trace before after how solves.cause
+served_texts (Some (Solve file settings workers log trace)) before after how (inl solves) = solved_texts file log settings trace before after how solves.cause
 served_texts (Some (Check file proof)) before after how (inl checks) = checked_texts file proof before checks.between after how checks.cause
+served_texts (Some (Gen kind n seed)) before after how (inl writes) = inr (written_texts (gen_text kind n seed) before after how writes.cause)
+served_texts (Some (Race kind n settings)) before after how (inl writes) = inr (written_texts (race_text kind n settings) before after how writes.cause)
 served_texts (Some job) before after how (inr gives_up) = inl (ap (λ (d : Desk). d.page) gives_up.untouched)
 
 -- a verdict has a status at which something may stand on the ports
@@ -102,6 +119,7 @@ silent_solve : (file : List ℕ) (log : Option (List ℕ)) (settings : Settings)
     → SolveCause file log settings trace before after how → after.page ≡ before.page
 silent_solve file log settings trace before after (Answered verdict) silent cause = absurd (loud_verdict verdict silent)
 silent_solve file log settings trace before after (Judged finding) silent cause = absurd cause
+silent_solve file log settings trace before after Written silent cause = absurd cause
 silent_solve file log settings trace before after Usage silent cause = absurd cause
 silent_solve file log settings trace before after (Unread stop) silent cause = cause.untouched
 silent_solve file log settings trace before after (Unjudged stop) silent cause = absurd cause
@@ -117,20 +135,34 @@ silent_check : (file proof : List ℕ) (before : Desk) (between : InputsTold) (a
     → CheckCause file proof before between after how → after.page ≡ before.page
 silent_check file proof before between after (Answered verdict) silent cause = absurd cause
 silent_check file proof before between after (Judged finding) silent cause = absurd (loud_finding finding silent)
+silent_check file proof before between after Written silent cause = absurd cause
 silent_check file proof before between after Usage silent cause = absurd cause
 silent_check file proof before between after (Unread stop) silent cause = cause.untouched
 silent_check file proof before between after (Unjudged stop) silent cause = cause.untouched
 silent_check file proof before between after (Unwritten stop) silent cause = absurd (loud_stop stop silent)
 silent_check file proof before between after NoMemory silent cause = absurd cause
 
+-- a command that writes a text has no silent status
+loud_text : (text : List ℕ) (before after : Desk) (how : Ending) → IsSilent (status_of how) → TextCause text before after how → ⊥
+loud_text text before after (Answered verdict) silent cause = cause
+loud_text text before after (Judged finding) silent cause = cause
+loud_text text before after Written silent cause = loud_finding Verified silent
+loud_text text before after Usage silent cause = cause
+loud_text text before after (Unread stop) silent cause = cause
+loud_text text before after (Unjudged stop) silent cause = cause
+loud_text text before after (Unwritten stop) silent cause = loud_stop stop silent
+loud_text text before after NoMemory silent cause = cause
+
 -- a run that ended with a silent status wrote nothing
 pub silent_run : (job : Option Job) (before after : Desk) (how : Ending) → IsSilent (status_of how) → Serves job before after how
     → after.page ≡ before.page
 silent_run None before after how silent refuses = ap (λ (d : Desk). d.page) refuses.untouched
-silent_run (Some (Solve file log settings trace workers)) before after how silent (inl solves) =
+silent_run (Some (Solve file settings workers log trace)) before after how silent (inl solves) =
     silent_solve file log settings trace before after how silent solves.cause
 silent_run (Some (Check file proof)) before after how silent (inl checks) =
     silent_check file proof before checks.between after how silent checks.cause
+silent_run (Some (Gen kind n seed)) before after how silent (inl writes) = absurd (loud_text (gen_text kind n seed) before after how silent writes.cause)
+silent_run (Some (Race kind n settings)) before after how silent (inl writes) = absurd (loud_text (race_text kind n settings) before after how silent writes.cause)
 silent_run (Some job) before after how silent (inr gives_up) = ap (λ (d : Desk). d.page) gives_up.untouched
 
 -- texts without a log leave all of logs as it was
@@ -144,8 +176,10 @@ pub unlogged : (job : Option Job) (before after : Desk) → HasNoLog job → (af
     → after.page.log ≡ before.page.log
 unlogged job before after none (inl same) = ap (λ (page : Page). page.log) same
 unlogged None before after none (inr own) = absurd own
-unlogged (Some (Solve file None settings trace workers)) before after none (inr own) =
+unlogged (Some (Solve file settings workers None trace)) before after none (inr own) =
     unlogged_texts (log_text own.cnf settings) (answer_of own.cnf settings trace) before.page after.page own.texts
-unlogged (Some (Solve file (Some name) settings trace workers)) before after none (inr own) = absurd none
+unlogged (Some (Solve file settings workers (Some name) trace)) before after none (inr own) = absurd none
 unlogged (Some (Check file proof)) before after none (inr own) =
     unlogged_texts (finding_text own.finding) (finding_text own.finding) before.page after.page own.texts
+unlogged (Some (Gen kind n seed)) before after none (inr own) = unlogged_texts (gen_text kind n seed) (gen_text kind n seed) before.page after.page own
+unlogged (Some (Race kind n settings)) before after none (inr own) = unlogged_texts (race_text kind n settings) (race_text kind n settings) before.page after.page own

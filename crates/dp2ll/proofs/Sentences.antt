@@ -5,13 +5,13 @@ use Rattle.desk_io.specs.declared.Slot.TheVariants.{Proof}
 use Rattle.desk_io.specs.declared.Port.TheVariants.{Complaint}
 use Rattle.cnf_text.specs.Laws.{EarlyFaultStays, EndEndsInput}
 use Rattle.lrat_check.specs.Laws.{FaultRefuses}
-use Rattle.dp2ll.specs.declared.words.Job.{Job}
-use Rattle.dp2ll.specs.declared.words.Job.TheVariants.{Solve, Check}
+use Rattle.job_words.specs.declared.job.Job.{Job}
+use Rattle.job_words.specs.declared.job.Job.TheVariants.{Solve, Check, Gen, Race}
 use Rattle.dp2ll.specs.declared.ending.ReadStop.TheVariants as reading
 use Rattle.dp2ll.specs.declared.ending.ProofStop.TheVariants as proof
 use Rattle.dp2ll.specs.declared.ending.WriteStop.TheVariants as writing
 use Rattle.dp2ll.specs.declared.ending.Ending.{Ending}
-use Rattle.dp2ll.specs.declared.ending.Ending.TheVariants.{Answered, Judged, Usage, Unread, Unjudged, Unwritten, NoMemory}
+use Rattle.dp2ll.specs.declared.ending.Ending.TheVariants.{Answered, Judged, Written, Usage, Unread, Unjudged, Unwritten, NoMemory}
 use Rattle.dp2ll.specs.Ending.{status_of, complaint_of}
 use Rattle.dp2ll.specs.Complaint.{Tells, TellsFront, Complains}
 use Rattle.dp2ll.specs.Reading.{BeginsSlot}
@@ -22,13 +22,16 @@ use Rattle.dp2ll.proofs.Whole.{KnowsReading}
 use Rattle.dp2ll.proofs.Ports.{served_texts, silent_run, unlogged}
 use Rattle.dp2ll.proofs.Ends.{own_of, ends_by}
 use Rattle.dp2ll.proofs.SolveSentences.{solve_sentences}
+use Rattle.dp2ll.proofs.TextSentences.{text_sentences}
 use Rattle.dp2ll.proofs.CheckSentences.{check_sentences}
 
 -- words that end with a usage fault are no command line
 usage_job : (job : Option Job) (before after : Desk) → Serves job before after Usage → job ≡ None
 usage_job None before after serves = refl
-usage_job (Some (Solve file log settings trace workers)) before after (inl solves) = absurd solves.cause
+usage_job (Some (Solve file settings workers log trace)) before after (inl solves) = absurd solves.cause
 usage_job (Some (Check file proof)) before after (inl checks) = absurd checks.cause
+usage_job (Some (Gen kind n seed)) before after (inl writes) = absurd writes.cause
+usage_job (Some (Race kind n settings)) before after (inl writes) = absurd writes.cause
 usage_job (Some job) before after (inr gives_up) = let never : Usage ≡ NoMemory = gives_up.cause in cc
 
 -- the words of a run with status 1
@@ -47,6 +50,7 @@ refuse_status : (how : Ending) (status : ℕ) (before after : PortTold) → Refu
     → (status ≡ 1) ⊎ (status ≡ 5)
 refuse_status how status before after cause (inr (five, front)) = inr five
 refuse_status (Answered verdict) status before after cause (inl told) = absurd cause
+refuse_status Written status before after cause (inl told) = absurd cause
 refuse_status Usage status before after cause (inl told) = inl told.0
 refuse_status (Judged finding) status before after cause (inl told) = absurd cause
 refuse_status (Unread stop) status before after cause (inl told) = absurd cause
@@ -98,6 +102,7 @@ proof_begun : (file proof : List ℕ) (before : Desk) (between : InputsTold) (af
     → CheckCause file proof before between after how → BeginsSlot Proof proof between after.inputs ⊎ (after.inputs ≡ between)
 proof_begun file proof before between after (Answered verdict) cause = absurd cause
 proof_begun file proof before between after (Judged finding) cause = inl cause.finds.begins.begun
+proof_begun file proof before between after Written cause = absurd cause
 proof_begun file proof before between after Usage cause = absurd cause
 proof_begun file proof before between after (Unread stop) cause = inr cause.no_more
 proof_begun file proof before between after (Unjudged stop) cause = inl cause.begins.begun
@@ -107,14 +112,18 @@ proof_begun file proof before between after NoMemory cause = absurd cause
 -- only the job's files are begun
 inputs_of : (job : Option Job) (before after : Desk) (how : Ending) → Serves job before after how → ReadsFile job before.inputs after.inputs
 inputs_of None before after how refuses = ap (λ (d : Desk). d.inputs) refuses.untouched
-inputs_of (Some (Solve file log settings trace workers)) before after how (inl solves) = inl solves.begun
+inputs_of (Some (Solve file settings workers log trace)) before after how (inl solves) = inl solves.begun
 inputs_of (Some (Check file proof)) before after how (inl checks) = inl (record {
   between = checks.between;
   first = checks.begun;
   second = proof_begun file proof before checks.between after how checks.cause;
 })
-inputs_of (Some (Solve file log settings trace workers)) before after how (inr gives_up) = inr (ap (λ (d : Desk). d.inputs) gives_up.untouched)
+inputs_of (Some (Solve file settings workers log trace)) before after how (inr gives_up) = inr (ap (λ (d : Desk). d.inputs) gives_up.untouched)
 inputs_of (Some (Check file proof)) before after how (inr gives_up) = inr (ap (λ (d : Desk). d.inputs) gives_up.untouched)
+inputs_of (Some (Gen kind n seed)) before after how (inl writes) = writes.unread
+inputs_of (Some (Race kind n settings)) before after how (inl writes) = writes.unread
+inputs_of (Some (Gen kind n seed)) before after how (inr gives_up) = ap (λ (d : Desk). d.inputs) gives_up.untouched
+inputs_of (Some (Race kind n settings)) before after how (inr gives_up) = ap (λ (d : Desk). d.inputs) gives_up.untouched
 
 -- statuses 2 to 5 come by their causes
 refusal_of : (run : Run) → Headline run → IsRefusal run
@@ -157,6 +166,7 @@ sentences_of stays ends refuses run h =
       status = record { ending = some.0; status = some.1 };
       solve = solve_sentences laws run h;
       check = check_sentences laws refuses run h;
+      text = text_sentences run h;
       refused = refusal_of run h;
       ports = ports_of run h;
     }

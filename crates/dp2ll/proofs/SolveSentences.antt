@@ -7,10 +7,10 @@ use Rattle.crew.specs.declared.outcome.Verdict.{Verdict}
 use Rattle.crew.specs.declared.outcome.Verdict.TheVariants.{Sat, Unsat, Unknown}
 use Rattle.crew.specs.declared.outcome.Outcome.{Outcome}
 use Rattle.crew.specs.Outcome.{outcome_of}
-use Rattle.dp2ll.specs.declared.words.Job.{Job}
-use Rattle.dp2ll.specs.declared.words.Job.TheVariants.{Solve, Check}
+use Rattle.job_words.specs.declared.job.Job.{Job}
+use Rattle.job_words.specs.declared.job.Job.TheVariants.{Solve, Check, Gen, Race}
 use Rattle.dp2ll.specs.declared.finding.Finding.TheVariants.{Verified}
-use Rattle.dp2ll.specs.declared.ending.Ending.TheVariants.{Answered, Judged}
+use Rattle.dp2ll.specs.declared.ending.Ending.TheVariants.{Answered, Judged, Written}
 use Rattle.dp2ll.specs.Ending.{verdict_status, status_of, complaint_of}
 use Rattle.dp2ll.specs.Complaint.{Tells}
 use Rattle.desk_io.specs.declared.Port.TheVariants.{Complaint}
@@ -28,14 +28,26 @@ on_answered : (job : Option Job) (before after : Desk) (verdict : Verdict) (Q : 
     → ((file : List ℕ) (log : Option (List ℕ)) (settings : Settings) (trace : Bool) → Solves file log settings trace before after (Answered verdict) → Q file log settings trace)
     → OnSolve job Q
 on_answered None before after verdict Q serves gives = absurd serves
-on_answered (Some (Solve file log settings trace workers)) before after verdict Q serves gives = gives file log settings trace serves
+on_answered (Some (Solve file settings workers log trace)) before after verdict Q serves gives = gives file log settings trace serves
 on_answered (Some (Check file proof)) before after verdict Q serves gives = absurd serves.cause
+on_answered (Some (Gen kind n seed)) before after verdict Q serves gives = absurd serves.cause
+on_answered (Some (Race kind n settings)) before after verdict Q serves gives = absurd serves.cause
 
 -- `solve` judges no proof
 never_judges : (job : Option Job) (before after : Desk) → IsSolve job → ServesJob job before after (Judged Verified) → ⊥
 never_judges None before after is serves = is
-never_judges (Some (Solve file log settings trace workers)) before after is serves = serves.cause
+never_judges (Some (Solve file settings workers log trace)) before after is serves = serves.cause
 never_judges (Some (Check file proof)) before after is serves = is
+never_judges (Some (Gen kind n seed)) before after is serves = is
+never_judges (Some (Race kind n settings)) before after is serves = is
+
+-- and makes no formula
+never_makes : (job : Option Job) (before after : Desk) → IsSolve job → ServesJob job before after Written → ⊥
+never_makes None before after is serves = is
+never_makes (Some (Solve file settings workers log trace)) before after is serves = serves.cause
+never_makes (Some (Check file proof)) before after is serves = is
+never_makes (Some (Gen kind n seed)) before after is serves = is
+never_makes (Some (Race kind n settings)) before after is serves = is
 
 -- a status of a verdict comes by its cause
 answered_at : (run : Run) (h : Headline run) (verdict : Verdict) (wanted : ℕ) → run.status ≡ wanted → (wanted ≡ 5 → ⊥)
@@ -51,9 +63,11 @@ gave_up run h is zero = by (own_of run h 0 zero (λ e. omega arith))
     by : (status_of h.how ≡ 0) × Tells (complaint_of h.how) (run.before.at Complaint) (run.after.at Complaint) → EndsBy run (Answered Unknown)
     by own = which (at_zero h.how own.0)
       where
-        which : (h.how ≡ Answered Unknown) ⊎ (h.how ≡ Judged Verified) → EndsBy run (Answered Unknown)
+        which : (h.how ≡ Answered Unknown) ⊎ ((h.how ≡ Judged Verified) ⊎ (h.how ≡ Written)) → EndsBy run (Answered Unknown)
         which (inl same) = ends_by run h (Answered Unknown) same own.1 (λ refused. refused)
-        which (inr same) =
+        which (inr (inr same)) =
+            absurd (never_makes run.job (desk_before run) (desk_after run) is (ends_by run h Written same own.1 (λ refused. refused)).serves)
+        which (inr (inl same)) =
             absurd (never_judges run.job (desk_before run) (desk_after run) is
             (ends_by run h (Judged Verified) same own.1 (λ refused. refused)).serves)
 

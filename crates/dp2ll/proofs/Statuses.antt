@@ -10,7 +10,7 @@ use Rattle.dp2ll.specs.declared.finding.Flaw.{Flaw}
 use Rattle.dp2ll.specs.declared.finding.Finding.{Finding}
 use Rattle.dp2ll.specs.declared.finding.Finding.TheVariants.{Verified, Flawed}
 use Rattle.dp2ll.specs.declared.ending.Ending.{Ending}
-use Rattle.dp2ll.specs.declared.ending.Ending.TheVariants.{Answered, Judged, Usage, Unread, Unjudged, Unwritten, NoMemory}
+use Rattle.dp2ll.specs.declared.ending.Ending.TheVariants.{Answered, Judged, Written, Usage, Unread, Unjudged, Unwritten, NoMemory}
 use Rattle.dp2ll.specs.Ending.{read_status, finding_status, status_of}
 
 -- a refusal of a file with the status of a fault has one
@@ -27,8 +27,8 @@ at_ten how ten = search rules
 pub at_twenty : (how : Ending) → status_of how ≡ 20 → how ≡ Answered Unsat
 at_twenty how twenty = search rules
 
--- 0 is the status of a run without an answer, and of a proof that checks
-pub at_zero : (how : Ending) → status_of how ≡ 0 → (how ≡ Answered Unknown) ⊎ (how ≡ Judged Verified)
+-- 0 is the status of a run without an answer, of a proof that checks, and of a text that is written
+pub at_zero : (how : Ending) → status_of how ≡ 0 → (how ≡ Answered Unknown) ⊎ ((how ≡ Judged Verified) ⊎ (how ≡ Written))
 at_zero how zero = search rules
 
 -- a finding with the status of a flaw has one
@@ -40,6 +40,7 @@ flaw_at (Flawed flaw) six = (flaw, refl)
 pub at_six : (how : Ending) → status_of how ≡ 6 → (flaw : Flaw) × (how ≡ Judged (Flawed flaw))
 at_six (Answered verdict) six = absurd (search rules)
 at_six (Judged finding) six = let m = flaw_at finding six in (m.0, ap (λ (f : Finding). Judged f) m.1)
+at_six Written six = absurd (omega arith)
 at_six Usage six = absurd (omega arith)
 at_six (Unread stop) six = absurd (search rules)
 at_six (Unjudged stop) six = absurd (search rules)
@@ -50,6 +51,7 @@ at_six NoMemory six = absurd (omega arith)
 pub at_two : (how : Ending) → status_of how ≡ 2 → (fault : CnfFault) × (how ≡ Unread (reading.NoFormula fault))
 at_two (Answered verdict) two = absurd (search rules)
 at_two (Judged finding) two = absurd (search rules)
+at_two Written two = absurd (omega arith)
 at_two Usage two = absurd (omega arith)
 at_two (Unjudged stop) two = absurd (search rules)
 at_two (Unread stop) two = let m = fault_at stop two in (m.0, ap (λ (s : ReadStop). Unread s) m.1)

@@ -16,7 +16,7 @@ use Rattle.dp2ll.specs.declared.ending.ProofStop.TheVariants as proof
 use Rattle.dp2ll.specs.declared.ending.WriteStop.{WriteStop}
 use Rattle.dp2ll.specs.declared.ending.WriteStop.TheVariants as writing
 use Rattle.dp2ll.specs.declared.ending.Ending.{Ending}
-use Rattle.dp2ll.specs.declared.ending.Ending.TheVariants.{Answered, Judged, Usage, Unread, Unjudged, Unwritten, NoMemory}
+use Rattle.dp2ll.specs.declared.ending.Ending.TheVariants.{Answered, Judged, Written, Usage, Unread, Unjudged, Unwritten, NoMemory}
 
 -- the exit status of a verdict, as the SAT competitions have it
 abbrev pub verdict_status : Verdict → ℕ
@@ -50,6 +50,7 @@ write_status writing.NoMemory = 5
 abbrev pub status_of : Ending → ℕ
 status_of (Answered verdict) = verdict_status verdict
 status_of (Judged finding) = finding_status finding
+status_of Written = 0
 status_of Usage = 1
 status_of (Unread stop) = read_status stop
 status_of (Unjudged stop) = proof_status stop
@@ -107,6 +108,7 @@ write_complaint writing.NoMemory = memory_complaint
 abbrev pub complaint_of : Ending → Option (List ℕ)
 complaint_of (Answered verdict) = None
 complaint_of (Judged finding) = finding_complaint finding
+complaint_of Written = None
 complaint_of Usage = Some usage_text
 complaint_of (Unread stop) = Some (read_complaint stop)
 complaint_of (Unjudged stop) = Some (proof_complaint stop)

@@ -12,8 +12,8 @@ use Rattle.desk_io.specs.declared.Port.TheVariants.{Answer, Log, Complaint}
 use Rattle.cnf_text.specs.declared.fault.CnfFault.{CnfFault}
 use Rattle.cnf_text.specs.Reading.{formula_of}
 use Rattle.solo_core.specs.declared.sheet.Settings.{Settings}
-use Rattle.dp2ll.specs.declared.words.Job.{Job}
-use Rattle.dp2ll.specs.declared.words.Job.TheVariants.{Solve, Check}
+use Rattle.job_words.specs.declared.job.Job.{Job}
+use Rattle.job_words.specs.declared.job.Job.TheVariants.{Solve, Check, Gen, Race}
 use Rattle.crew.specs.declared.outcome.Verdict.TheVariants.{Sat, Unsat, Unknown}
 use Rattle.crew.specs.Log.{log_text}
 use Rattle.crew.specs.Outcome.{outcome_of}
@@ -25,8 +25,9 @@ use Rattle.dp2ll.specs.declared.finding.Flaw.{Flaw}
 use Rattle.dp2ll.specs.declared.finding.Finding.{Finding}
 use Rattle.dp2ll.specs.declared.finding.Finding.TheVariants.{Verified, Flawed}
 use Rattle.dp2ll.specs.declared.ending.Ending.{Ending}
-use Rattle.dp2ll.specs.declared.ending.Ending.TheVariants.{Answered, Judged, Usage, Unread, Unjudged, Unwritten}
-use Rattle.dp2ll.specs.Job.{job_of}
+use Rattle.dp2ll.specs.declared.ending.Ending.TheVariants.{Answered, Judged, Written, Usage, Unread, Unjudged, Unwritten}
+use Rattle.job_words.specs.Job.{job_of}
+use Rattle.dp2ll.specs.Making.{gen_text, race_text}
 use Rattle.dp2ll.specs.Ending.{verdict_status, status_of, complaint_of, finding_text, flaw_complaint}
 use Rattle.dp2ll.specs.Outcome.{answer_of, FindsModel, IsRefuted, AreAllSpent}
 use Rattle.dp2ll.specs.Logging.{log_told, LogsWhole}
@@ -74,14 +75,26 @@ pub record Headline (run : Run) : Type 0 where
 -- it is to have makes no difference
 abbrev pub OnSolve : Option Job → (List ℕ → Option (List ℕ) → Settings → Bool → Type 0) → Type 0
 OnSolve None P = ⊥
-OnSolve (Some (Solve file log settings trace workers)) P = P file log settings trace
+OnSolve (Some (Solve file settings workers log trace)) P = P file log settings trace
 OnSolve (Some (Check file proof)) P = ⊥
+OnSolve (Some (Gen kind n seed)) P = ⊥
+OnSolve (Some (Race kind n settings)) P = ⊥
 
 -- the job is `check` of a formula's file and a proof's, of which this holds
 abbrev pub OnCheck : Option Job → (List ℕ → List ℕ → Type 0) → Type 0
 OnCheck None P = ⊥
-OnCheck (Some (Solve file log settings trace workers)) P = ⊥
+OnCheck (Some (Solve file settings workers log trace)) P = ⊥
 OnCheck (Some (Check file proof)) P = P file proof
+OnCheck (Some (Gen kind n seed)) P = ⊥
+OnCheck (Some (Race kind n settings)) P = ⊥
+
+-- the job is `gen` or `race`, which answers with a text of which this holds
+abbrev pub OnText : Option Job → (List ℕ → Type 0) → Type 0
+OnText None P = ⊥
+OnText (Some (Solve file settings workers log trace)) P = ⊥
+OnText (Some (Check file proof)) P = ⊥
+OnText (Some (Gen kind n seed)) P = P (gen_text kind n seed)
+OnText (Some (Race kind n settings)) P = P (race_text kind n settings)
 
 -- the job is `solve`
 abbrev pub IsSolve : Option Job → Type 0
@@ -90,6 +103,10 @@ IsSolve job = OnSolve job (λ file log settings trace. Unit {0})
 -- the job is `check`
 abbrev pub IsCheck : Option Job → Type 0
 IsCheck job = OnCheck job (λ file proof. Unit {0})
+
+-- the job is `gen` or `race`
+abbrev pub WritesOwnText : Option Job → Type 0
+WritesOwnText job = OnText job (λ text. Unit {0})
 
 -- the command ended like this by its cause, and its complaint was told
 pub record EndsBy (run : Run) (how : Ending) : Type 0 where
@@ -169,8 +186,10 @@ pub record ReadsTwo (file proof : List ℕ) (before after : InputsTold) : Type 0
 -- a slot is begun at most once, with the file that the job names for it, and nothing else of the inputs changes
 abbrev pub ReadsFile : Option Job → InputsTold → InputsTold → Type 0
 ReadsFile None before after = after ≡ before
-ReadsFile (Some (Solve file log settings trace workers)) before after = BeginsFormula file before after ⊎ (after ≡ before)
+ReadsFile (Some (Solve file settings workers log trace)) before after = BeginsFormula file before after ⊎ (after ≡ before)
 ReadsFile (Some (Check file proof)) before after = ReadsTwo file proof before after ⊎ (after ≡ before)
+ReadsFile (Some (Gen kind n seed)) before after = after ≡ before
+ReadsFile (Some (Race kind n settings)) before after = after ≡ before
 
 -- the run ended for want of memory, with its line, or memory was refused to the complaint of another ending whose cause holds
 pub record WantsMemory (run : Run) : Type 0 where
@@ -204,15 +223,19 @@ pub record SaysOwn (file proof : List ℕ) (before after : Desk) : Type 0 where
 -- what a command leaves of its own texts
 abbrev pub LeavesOwn : Option Job → Desk → Desk → Type 0
 LeavesOwn None before after = ⊥
-LeavesOwn (Some (Solve file log settings trace workers)) before after = WritesOwn file log settings trace before after
+LeavesOwn (Some (Solve file settings workers log trace)) before after = WritesOwn file log settings trace before after
 LeavesOwn (Some (Check file proof)) before after = SaysOwn file proof before after
+LeavesOwn (Some (Gen kind n seed)) before after = WritesFronts None (gen_text kind n seed) (gen_text kind n seed) before.page after.page
+LeavesOwn (Some (Race kind n settings)) before after = WritesFronts None (race_text kind n settings) (race_text kind n settings) before.page after.page
 
 -- the job names no log
 abbrev pub HasNoLog : Option Job → Type 0
 HasNoLog None = Unit {0}
-HasNoLog (Some (Solve file None settings trace workers)) = Unit {0}
-HasNoLog (Some (Solve file (Some name) settings trace workers)) = ⊥
+HasNoLog (Some (Solve file settings workers None trace)) = Unit {0}
+HasNoLog (Some (Solve file settings workers (Some name) trace)) = ⊥
 HasNoLog (Some (Check file proof)) = Unit {0}
+HasNoLog (Some (Gen kind n seed)) = Unit {0}
+HasNoLog (Some (Race kind n settings)) = Unit {0}
 
 -- the statuses at which neither log nor answer is touched
 abbrev pub IsSilent : ℕ → Type 0
@@ -249,7 +272,7 @@ AnswersFile (Err fault) log settings trace run = RefusesFile fault run ⊎ (run.
 abbrev pub IsComplete : Run → Type 0
 IsComplete run =
     (file : List ℕ) (log : Option (List ℕ)) (settings : Settings) (trace : Bool) (workers : ℕ) (bytes : List ℕ)
-    → run.job ≡ Some (Solve file log settings trace workers)
+    → run.job ≡ Some (Solve file settings workers log trace)
     → run.inputs_before.held Formula file ≡ Some bytes
     → ¬ Rose (run.inputs_before.at Formula).faults (run.inputs_after.at Formula).faults
     → AnswersFile (formula_of bytes) log settings trace run
@@ -306,6 +329,15 @@ IsCompleteCheck run =
     → ¬ Rose (run.inputs_before.at Formula).faults (run.inputs_after.at Formula).faults
     → AnswersCheck (formula_of bytes) proof run
 
+-- == `gen` and `race` ==
+
+-- the status is 0 where the text is written whole, else 4 or 5: 4 only where a call on the answer failed
+pub record TextSentences (run : Run) : Type 0 where
+  pub written : run.status ≡ 0 → EndsBy run Written
+  pub printed : run.status ≡ 0 → OnText run.job (λ text. (run.after.at Answer).written ≡ append_known (run.before.at Answer).written text)
+  pub statuses : (run.status ≡ 0) ⊎ ((run.status ≡ 4) ⊎ (run.status ≡ 5))
+  pub complete : ¬ Rose (run.before.at Answer).faults (run.after.at Answer).faults → (run.status ≡ 0) ⊎ (run.status ≡ 5)
+
 -- == all sentences ==
 
 -- the sentences of `solve`
@@ -329,5 +361,6 @@ pub record Sentences (run : Run) : Type 0 where
   pub status : HasStatus run
   pub solve : IsSolve run.job → SolveSentences run
   pub check : IsCheck run.job → CheckSentences run
+  pub text : WritesOwnText run.job → TextSentences run
   pub refused : IsRefusal run
   pub ports : KeepsPorts run

@@ -1,4 +1,4 @@
-pub mod Job
+pub mod Making
 pub mod Ending
 pub mod Running
 pub mod Cores

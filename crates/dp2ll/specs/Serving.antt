@@ -4,8 +4,8 @@ use Rattle.lit_base.specs.Cnf.{Cnf}
 use Rattle.desk_io.specs.Told.{InputsTold, OutputsTold}
 use Rattle.desk_io.specs.declared.Slot.TheVariants.{Formula, Proof}
 use Rattle.lit_base.specs.Judgement.{HasNoModel}
-use Rattle.dp2ll.specs.declared.words.Job.{Job}
-use Rattle.dp2ll.specs.declared.words.Job.TheVariants.{Solve, Check}
+use Rattle.job_words.specs.declared.job.Job.{Job}
+use Rattle.job_words.specs.declared.job.Job.TheVariants.{Solve, Check, Gen, Race}
 use Rattle.solo_core.specs.declared.sheet.Settings.{Settings}
 use Rattle.crew.specs.declared.outcome.Verdict.{Verdict}
 use Rattle.dp2ll.specs.declared.ending.ReadStop.{ReadStop}
@@ -14,7 +14,8 @@ use Rattle.dp2ll.specs.declared.finding.Finding.TheVariants.{Verified}
 use Rattle.dp2ll.specs.declared.ending.ProofStop.{ProofStop}
 use Rattle.dp2ll.specs.declared.ending.WriteStop.{WriteStop}
 use Rattle.dp2ll.specs.declared.ending.Ending.{Ending}
-use Rattle.dp2ll.specs.declared.ending.Ending.TheVariants.{Answered, Judged, Usage, Unread, Unjudged, Unwritten, NoMemory}
+use Rattle.dp2ll.specs.declared.ending.Ending.TheVariants.{Answered, Judged, Written, Usage, Unread, Unjudged, Unwritten, NoMemory}
+use Rattle.dp2ll.specs.Making.{gen_text, race_text}
 use Rattle.dp2ll.specs.Ending.{finding_text}
 use Rattle.dp2ll.specs.Reading.{BeginsSlot, BeginsFormula, IsRead, StopsReading}
 use Rattle.dp2ll.specs.Judging.{IsJudged, StopsJudging}
@@ -54,6 +55,7 @@ pub record IsUnwritten (file : List ℕ) (log : Option (List ℕ)) (settings : S
 abbrev pub SolveCause : List ℕ → Option (List ℕ) → Settings → Bool → Desk → Desk → Ending → Type 0
 SolveCause file log settings trace before after (Answered verdict) = IsSolved file log settings trace before after verdict
 SolveCause file log settings trace before after (Judged finding) = ⊥
+SolveCause file log settings trace before after Written = ⊥
 SolveCause file log settings trace before after Usage = ⊥
 SolveCause file log settings trace before after (Unread stop) = IsUnread file before after stop
 SolveCause file log settings trace before after (Unjudged stop) = ⊥
@@ -107,6 +109,7 @@ pub record IsUnsaid (file proof : List ℕ) (before : Desk) (between : InputsTol
 abbrev pub CheckCause : List ℕ → List ℕ → Desk → InputsTold → Desk → Ending → Type 0
 CheckCause file proof before between after (Answered verdict) = ⊥
 CheckCause file proof before between after (Judged finding) = IsChecked file proof before between after finding
+CheckCause file proof before between after Written = ⊥
 CheckCause file proof before between after Usage = ⊥
 CheckCause file proof before between after (Unread stop) = IsUnchecked file before between after stop
 CheckCause file proof before between after (Unjudged stop) = IsUnjudged file proof before between after stop
@@ -118,6 +121,24 @@ pub record ChecksProof (file proof : List ℕ) (before after : Desk) (how : Endi
   pub between : InputsTold
   pub begun : BeginsFormula file before.inputs between
   pub cause : CheckCause file proof before between after how
+
+-- == `gen` and `race` ==
+
+-- the cause of each ending of a command that writes this text and reads nothing
+abbrev pub TextCause : List ℕ → Desk → Desk → Ending → Type 0
+TextCause text before after (Answered verdict) = ⊥
+TextCause text before after (Judged finding) = ⊥
+TextCause text before after Written = WritesBoth None text text before.page after.page
+TextCause text before after Usage = ⊥
+TextCause text before after (Unread stop) = ⊥
+TextCause text before after (Unjudged stop) = ⊥
+TextCause text before after (Unwritten stop) = CutsTexts None text text before.page after.page stop
+TextCause text before after NoMemory = ⊥
+
+-- a command that writes this text: nothing was begun, and one of the endings came by its cause
+pub record WritesText (text : List ℕ) (before after : Desk) (how : Ending) : Type 0 where
+  pub unread : after.inputs ≡ before.inputs
+  pub cause : TextCause text before after how
 
 -- == any words ==
 
@@ -131,9 +152,15 @@ abbrev pub ending_of : Result Verdict Ending → Ending
 ending_of (Ok verdict) = Answered verdict
 ending_of (Err how) = how
 
+-- how a command that writes a text ended, by its answer
+abbrev pub written_ending : Result (Unit {0}) WriteStop → Ending
+written_ending (Ok done) = Written
+written_ending (Err stop) = Unwritten stop
+
 -- a run that begins nothing ends by a usage fault or by want of memory
 abbrev pub RefuseCause : Ending → Type 0
 RefuseCause (Answered verdict) = ⊥
+RefuseCause Written = ⊥
 RefuseCause Usage = Unit {0}
 RefuseCause (Judged finding) = ⊥
 RefuseCause (Unread stop) = ⊥
@@ -154,8 +181,10 @@ pub record GivesUp (before after : Desk) (how : Ending) : Type 0 where
 -- a command that begins its file ended like this by its cause; other words begin nothing
 abbrev pub ServesJob : Option Job → Desk → Desk → Ending → Type 0
 ServesJob None before after how = ⊥
-ServesJob (Some (Solve file log settings trace workers)) before after how = Solves file log settings trace before after how
+ServesJob (Some (Solve file settings workers log trace)) before after how = Solves file log settings trace before after how
 ServesJob (Some (Check file proof)) before after how = ChecksProof file proof before after how
+ServesJob (Some (Gen kind n seed)) before after how = WritesText (gen_text kind n seed) before after how
+ServesJob (Some (Race kind n settings)) before after how = WritesText (race_text kind n settings) before after how
 
 -- a run by its job: words that are no command line are refused
 abbrev pub Serves : Option Job → Desk → Desk → Ending → Type 0

@@ -8,7 +8,7 @@ ghost use Rattle.answer_text.specs.Answer.{answer_text};
 ghost use Rattle.dp2ll.specs.Answering.{Answers, AnswersPort, WritesTexts, page_of, KeepsComplaint};
 ghost use Rattle.dp2ll.specs.Logging.{KeepsLog, log_told};
 ghost use Rattle.dp2ll.specs.Ending.{finding_text};
-ghost use Rattle.dp2ll.specs.Running.{without_outcome};
+ghost use Rattle.dp2ll.specs.Running.{answer_stop, without_outcome};
 ghost use Rattle.dp2ll.specs.Cores.{MayRun, RunsCores};
 
 use crate::backing::law_verdict_is_backed;
@@ -105,7 +105,14 @@ fn say_outcome<O: Outputs>(
     ensures log { log_told (O.told outputs.new) ≡ log_told (O.told outputs.old) }
     ensures complaint { KeepsComplaint (O.told outputs.old) (O.told outputs.new) }
 {
-    match write_answer(alloc, outcome, settings, trace, outputs) {
+    on_answer(write_answer(alloc, outcome, settings, trace, outputs))
+}
+
+/// How writing the answer ended, as the program has it.
+pub(crate) fn on_answer(written: Result<(), Stop>) -> Result<(), WriteStop>
+    ensures { result ≡ answer_stop written }
+{
+    match written {
         Ok(()) => Ok(()),
         Err(Stop::WriteFault) => Err(WriteStop::AnswerFault),
         Err(Stop::NoMemory) => Err(WriteStop::NoMemory),

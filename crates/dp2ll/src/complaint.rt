@@ -31,7 +31,9 @@ pub(crate) fn complain<O: Outputs>(alloc: Global, outputs: &mut O, ending: &Endi
     ensures others { page_of (O.told outputs.new) ≡ page_of (O.told outputs.old) }
 {
     match ending {
-        Ending::Answered(_) | Ending::Judged(Finding::Verified) => ending.status(),
+        Ending::Answered(_) | Ending::Judged(Finding::Verified) | Ending::Written => {
+            ending.status()
+        }
         Ending::Judged(Finding::Flawed(flaw)) => complain_of_flaw(alloc, outputs, *flaw),
         Ending::Usage => complain_aloud(outputs, USAGE.as_slice(), 1),
         Ending::Unread(stop) => complain_of_reading(alloc, outputs, *stop),

@@ -44,6 +44,8 @@ pub(crate) enum Ending {
     Answered(Verdict),
     /// This was found of the proof, and the answer says so.
     Judged(Finding),
+    /// The text of `gen` or `race` is written.
+    Written,
     /// The words are no command line.
     Usage,
     /// The file was not read as a formula.
@@ -181,6 +183,7 @@ impl Ending {
         match self {
             Ending::Answered(verdict) => verdict_status(*verdict),
             Ending::Judged(finding) => finding.status(),
+            Ending::Written => 0,
             Ending::Usage => 1,
             Ending::Unread(stop) => stop.status(),
             Ending::Unjudged(stop) => stop.status(),

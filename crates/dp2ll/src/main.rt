@@ -1,5 +1,5 @@
 //! dp2ll decides formulas in conjunctive normal form, `dp2ll solve FILE`, and judges proofs that they have no model,
-//! `dp2ll check FILE PROOF`.
+//! `dp2ll check FILE PROOF`. It makes formulas from a number, `dp2ll gen KIND N`, and decides them, `dp2ll race KIND N`.
 #![tactic(auto)]
 
 mod answer;
@@ -8,11 +8,11 @@ mod complaint;
 mod ending;
 mod finding;
 mod judge;
+mod making;
 mod read;
 mod run;
 #[cfg(test)]
 mod tests;
-mod words;
 
 use complaint::complain;
 use desk_io::{NoGate, RealInputs, RealOutputs};

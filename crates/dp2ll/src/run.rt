@@ -4,18 +4,19 @@ ghost use Rattle.dp2ll.specs.Cores.{GivesRun, MayRun, RunsCores};
 ghost use Rattle.dp2ll.specs.Answering.{KeepsComplaint};
 ghost use Rattle.dp2ll.specs.Serving.{Solves, ChecksProof, Serves, desk, ending_of, checked_ending};
 ghost use Rattle.dp2ll.specs.Headline.{run_of, Headline, Sentences};
-ghost use Rattle.dp2ll.specs.Job.{job_of};
+ghost use Rattle.job_words.specs.Job.{job_of};
 
 use crate::answer::{answer, say_finding};
 use crate::complaint::complain;
 use crate::ending::Ending;
 use crate::finding::Finding;
 use crate::judge::judge_file;
+use crate::making::{race, write_made};
 use crate::read::read_formula;
-use crate::words::{Job, WordFault, read_words};
 use cnf_text::{early_fault_stays, end_ends_input};
 use crew::{Outcome, Stop, Verdict, run_joined, run_turns};
 use desk_io::{Gate, Inputs, Outputs};
+use job_words::{Job, WordFault, read_words};
 use lit_base::{Formula, Text, law_checked_proof_refutes};
 use lrat_check::law_fault_refuses;
 use solo_core::Settings;
@@ -59,7 +60,7 @@ pub fn run<R: Threads + Wait + Sync, I: Inputs, O: Outputs, G: Gate>(
 /// log is named; 0: unknown, since each core had all conflicts that it may have. `check` gives 0: the
 /// proof checks; 6: it doesn't. Any words give 1: they are no command line; 2: the file is no
 /// formula; 3: it, or the proof, could not be read; 4: log or answer could not be written; 5: memory
-/// could not be had.
+/// could not be had. `gen` and `race` give 0: their text is written; or 4 or 5.
 pub fn run_still<I: Inputs, O: Outputs>(
     alloc: Global,
     words: &[String],
@@ -135,10 +136,10 @@ fn serve<
         Ok(
             Job::Solve {
                 file,
-                log,
                 settings,
-                trace,
                 workers,
+                log,
+                trace,
             },
         ) => {
             match solve(
@@ -160,6 +161,18 @@ fn serve<
             match check(alloc, file.as_str(), proof.as_str(), inputs, outputs) {
                 Ok(finding) => Ending::Judged(finding),
                 Err(ending) => ending,
+            }
+        }
+        Ok(Job::Gen { kind, n, seed }) => {
+            match write_made(alloc, kind, n, seed, outputs) {
+                Ok(()) => Ending::Written,
+                Err(stop) => Ending::Unwritten(stop),
+            }
+        }
+        Ok(Job::Race { kind, n, settings }) => {
+            match race(alloc, kind, n, &settings, outputs) {
+                Ok(()) => Ending::Written,
+                Err(stop) => Ending::Unwritten(stop),
             }
         }
         Err(WordFault::Usage) => Ending::Usage,

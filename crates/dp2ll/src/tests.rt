@@ -1,7 +1,6 @@
 //! Runs of the program over inputs and outputs in memory.
 
 use crate::run::run;
-use crate::words::law_small_command_lines;
 use desk_io::{Failed, Inputs, MemoryInputs, MemoryOutputs, NoGate, Port, Slot};
 use lit_base::List;
 use std::alloc::Global;
@@ -11,6 +10,7 @@ use std::test::Fail;
 use std::thread::Threads;
 
 mod check;
+mod making;
 mod workers;
 
 /// How many bytes a call reads or writes at most.
@@ -653,7 +653,7 @@ static REFUSALS: [Refusal; 7] = [
 ];
 
 /// Words that are no command line.
-static FAULTY: [&[&str]; 40] = [
+static FAULTY: [&[&str]; 43] = [
     &[],
     &["solve"],
     &["solve", ""],
@@ -661,8 +661,6 @@ static FAULTY: [&[&str]; 40] = [
     &["solve", "f", "--log"],
     &["solve", "f", "--log", ""],
     &["solve", "f", "--log", "-g"],
-    &["solve", "f", "--log=g"],
-    &["solve", "--log", "g", "f"],
     &["solve", "f", "--log", "g", "--log", "g"],
     &["solve", "f", "--limit"],
     &["solve", "f", "--limit", "0"],
@@ -672,7 +670,6 @@ static FAULTY: [&[&str]; 40] = [
     &["solve", "f", "--limit", "+1"],
     &["solve", "f", "--limit", "1x"],
     &["solve", "f", "--limit", "1", "--limit", "1"],
-    &["solve", "f", "--limit=1"],
     &["solve", "f", "--cores", "17"],
     &["solve", "f", "--cores", "0"],
     &["solve", "f", "--period", "100001"],
@@ -693,11 +690,19 @@ static FAULTY: [&[&str]; 40] = [
     &["check", "", "p"],
     &["check", "f", "p", "q"],
     &["check", "f", "p", "--limit", "1"],
+    &["solve", "f", "--help"],
     &["gen", "tower", "3"],
+    &["gen", "hole", "0"],
+    &["gen", "hole", "101"],
+    &["gen", "hole", "3", "--cores", "1"],
+    &["race", "hole"],
+    &["race", "hole", "1", "--workers", "1"],
 ];
 
 /// Words that are the same command line as `solve f --log g`.
-static SAME: [&[&str]; 7] = [
+static SAME: [&[&str]; 9] = [
+    &["solve", "--log", "g", "f"],
+    &["solve", "--log=g", "--cores=1", "f"],
     &[
         "solve", "f", "--share", "0", "--period", "100000", "--cores", "16", "--log", "g",
     ],
@@ -729,11 +734,6 @@ fn options_in_any_order(rt: HostRuntime) -> Result<(), Fail> {
         );
     }
     Ok(())
-}
-
-#[test]
-fn laws_can_be_called(_rt: HostRuntime) {
-    law_small_command_lines();
 }
 
 #[test]
