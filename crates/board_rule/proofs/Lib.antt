@@ -1,0 +1,9 @@
+pub mod Sums
+pub mod Changes
+pub mod Boxes
+pub mod Keeping
+pub mod Arriving
+pub mod Levels
+pub mod Sending
+pub mod Receiving
+pub mod Seating

@@ -1,0 +1,4 @@
+pub mod Passes
+pub mod Boards
+pub mod Looks
+pub mod Periods
