@@ -47,8 +47,15 @@ pub(crate) fn make_room<O: Outputs>(buffer: &mut Vec<u8>, outputs: &mut O) -> Re
 pub(crate) fn push_word(buffer: &mut Vec<u8>, mark: &[u8], number: u64) -> Result<(), NoMemory>
     ensures { OnOk result (buffer.new.items ≡ buffer.old.items ++ (mark.now ++ decimal number)) }
 {
-    let mut digits = Buffer::new();
     buffer.extend_from_slice(mark)?;
+    push_number(buffer, number)
+}
+
+/// Adds a number.
+pub(crate) fn push_number(buffer: &mut Vec<u8>, number: u64) -> Result<(), NoMemory>
+    ensures { OnOk result (buffer.new.items ≡ buffer.old.items ++ decimal number) }
+{
+    let mut digits = Buffer::new();
     buffer.extend_from_slice(digits.format(number).as_bytes())?;
     Ok(())
 }

@@ -6,7 +6,7 @@ ghost use Rattle.desk_io.specs.Outputs.{WritesWhole};
 ghost use Rattle.answer_text.specs.Gathering.{Passes};
 ghost use Rattle.answer_text.specs.Writing.{WritesAnswer};
 
-use crate::buffer::{empty_buffer, ended, flush, make_room, push_text, push_word};
+use crate::buffer::{empty_buffer, ended, flush, make_room, push_number, push_text, push_word};
 use desk_io::{Outputs, PortFault};
 use lit_base::{Clause, Formula, Lit, NoMemory};
 use log_merge::Stop;
@@ -108,11 +108,10 @@ fn put_lits<O: Outputs>(
 fn push_lit(buffer: &mut Vec<u8>, lit: Lit) -> Result<(), NoMemory>
     ensures { OnOk result (buffer.new.items ≡ buffer.old.items ++ (literal_text lit ++ codes " ")) }
 {
-    let mark = if lit.is_positive() {
-        b"".as_slice()
-    } else {
-        b"-".as_slice()
-    };
-    push_word(buffer, mark, u64::from(lit.var()))?;
-    push_text(buffer, b" ")
+    if !lit.is_positive() {
+        buffer.push(b'-')?;
+    }
+    push_number(buffer, u64::from(lit.var()))?;
+    buffer.push(b' ')?;
+    Ok(())
 }

@@ -4,8 +4,9 @@ use Rattle.std.specs.Prelude.{Some, slice_range}
 use Rattle.std.proofs.lemmas.Bool.{cond-true, cond-false, eq-eqb, ne_eqb}
 use Rattle.std.proofs.lemmas.List.{take-take, take-append-le, take_all, drop_at, length-append, length-reverse}
 use Rattle.std.proofs.lemmas.Slice.{between_is}
+use Rattle.std.proofs.Math.Seq.{length-slice}
 use Rattle.lit_base.specs.Literal.{Literal}
-use Rattle.clause_pool.specs.Arena.{end_of, parts_of, AreEnds, IsArena, at_place}
+use Rattle.clause_pool.specs.Arena.{end_of, parts_of, AreEnds, IsArena, at_place, literals_in}
 use Rattle.clause_pool.proofs.Splits.{split, older_length}
 
 -- a part is the same where the arenas are the same up to its end
@@ -46,6 +47,21 @@ arena_added literals lits ends e arena is =
 pub parts_length : (literals : List Literal) (ends : List ℕ) → length (parts_of literals ends) ≡ length ends
 parts_length literals [] = refl
 parts_length literals (e ∷ older) = let rest = parts_length literals older in omega (arith, rest)
+
+-- the parts up to an end have as many literals as stand in front of it
+parts_size : (literals : List Literal) (ends : List ℕ) → AreEnds ends → end_of ends ≤ length literals → literals_in (parts_of literals ends) ≡ end_of ends
+parts_size literals [] ordered within = refl
+parts_size literals (e ∷ older) ordered within =
+    let below : end_of older ≤ length literals = omega (arith, ordered.0, within) in
+    let rest = parts_size literals older ordered.1 below in
+    let size : length (slice_range literals (end_of older) e) ≡ e - end_of older =
+    ap length (between_is literals (end_of older) e) ∙ length-slice (end_of older) e literals within in
+    omega (arith, rest, size, ordered.0)
+
+-- so a whole arena has those of its parts
+pub arena_size : (literals : List Literal) (ends : List ℕ) (value : List (List Literal)) → IsArena literals ends → parts_of literals ends ≡ value → literals_in value ≡ length literals
+arena_size literals ends value arena view =
+    ap literals_in (sym view) ∙ (parts_size literals ends arena.ordered (omega (arith, arena.full)) ∙ arena.full)
 
 -- the part that stands at a place
 part_at : (literals : List Literal) (newer : List ℕ) (e : ℕ) (older : List ℕ) → at_place (parts_of literals (newer ++ e ∷ older)) (length older) ≡ Some (slice_range literals (end_of older) e)

@@ -1,5 +1,5 @@
 -- Parts of one arena of literals, the newest first.
-use Rattle.std.specs.Prelude.{◌≡◌, ℕ, ◌≤◌, ◌==◌, ⊤, List, [], ◌∷◌, length, Option, Some, None, slice_range, if◌then◌else◌}
+use Rattle.std.specs.Prelude.{◌≡◌, ℕ, ◌+◌, ◌≤◌, ◌==◌, ⊤, List, [], ◌∷◌, length, Option, Some, None, slice_range, if◌then◌else◌}
 use Rattle.lit_base.specs.Literal.{Literal}
 
 -- where the newest of these parts ends; the oldest begins at 0
@@ -26,3 +26,8 @@ pub record IsArena (literals : List Literal) (ends : List ℕ) : Type 0 where
 abbrev pub at_place : {X : Type 0} → List X → ℕ → Option X
 at_place [] place = None
 at_place (x ∷ older) place = if place == length older then Some x else at_place older place
+
+-- how many literals these clauses have
+abbrev pub literals_in : List (List Literal) → ℕ
+literals_in [] = 0
+literals_in (lits ∷ older) = length lits + literals_in older

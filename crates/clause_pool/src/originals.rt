@@ -1,18 +1,21 @@
-ghost use Rattle.std.specs.Prelude.{◌≡◌, ◌<◌, ◌≤◌, [], ◌∷◌, length, reverse, take, Some, OnOk, OnErr};
-ghost use Rattle.clause_pool.specs.Arena.{at_place, end_of};
+ghost use Rattle.std.specs.Prelude.{◌≡◌, ◌+◌, ◌^◌, ◌<◌, ◌≤◌, ◌↔◌, [], ◌∷◌, length, reverse, take, IsTrue, Some, OnOk, OnErr};
+ghost use Rattle.clause_pool.specs.Arena.{at_place, end_of, literals_in};
 
 use crate::arena::part;
 use lit_base::{Lit, NoMemory};
 use std::alloc::Global;
 use std::marker::Model;
 
+/// An end counts the literals up to it in 32 bits.
+const MOST_LITERALS: usize = 4_294_967_295;
+
 /// Clauses that are found by their index, seen by contracts as the list of their literals, the newest first.
 ///
-/// A clause takes the 8 bytes of its end beside its literals.
+/// A clause takes the 4 bytes of its end beside its literals, of which there are fewer than 2^32 in all.
 #[derive(Debug, Drop)]
 pub(crate) struct Originals {
     literals: Vec<Lit>,
-    ends: Vec<usize>,
+    ends: Vec<u32>,
 }
 
 impl Model for Originals {
@@ -47,14 +50,23 @@ impl Originals {
         self.ends.len()
     }
 
+    /// Whether so many literals more leave fewer than 2^32 in all.
+    pub(crate) fn fits(&self, more: usize) -> bool
+        ensures { IsTrue result ↔ (literals_in self.now + more < 2 ^ 32) }
+    {
+        let _ = &self.ends;
+        more <= MOST_LITERALS && self.literals.len() <= MOST_LITERALS - more
+    }
+
     /// Adds a clause. After `NoMemory` nothing changed.
     pub(crate) fn push(&mut self, lits: &[Lit]) -> Result<(), NoMemory>
+        requires { literals_in self.old + length lits.now < 2 ^ 32 }
         ensures ok { OnOk result (self.new ≡ lits.now ∷ self.old) }
         ensures err { OnErr result (self.new ≡ self.old) }
     {
         self.ends.reserve(1)?;
         self.literals.extend_from_slice(lits)?;
-        self.ends.push_reserved(self.literals.len());
+        self.ends.push_reserved(self.literals.len() as u32);
         Ok(())
     }
 
@@ -66,15 +78,19 @@ impl Originals {
         part(
             &self.literals,
             start_of(&self.ends, index),
-            self.ends[index],
+            self.ends[index] as usize,
         )
     }
 }
 
 /// Where a part of the arena begins: where the one before it ends.
-fn start_of(ends: &[usize], index: usize) -> usize
+fn start_of(ends: &[u32], index: usize) -> usize
     requires { index ≤ length ends.now }
     ensures { result ≡ end_of (reverse (take index ends.now)) }
 {
-    if index == 0 { 0 } else { ends[index - 1] }
+    if index == 0 {
+        0
+    } else {
+        ends[index - 1] as usize
+    }
 }

@@ -23,7 +23,8 @@ use std::sync::ledger::Ledger;
 /// The clauses that a core holds, each under its name, seen by contracts as their list by rising names.
 ///
 /// The literals of clauses stand in arenas, in the order of adding (as in MiniSat: Eén and Sörensson 2003). The originals
-/// 0, 1, 2, .. are found by their index where they are added first and in this order; every other clause is found by its
+/// 0, 1, 2, .. are found by their index where they are added first and in this order, as long as they have fewer than 2^32
+/// literals; every other clause is found by its
 /// name in constant time, and is packed together with the others at each drop.
 #[derive(Debug, Drop)]
 pub struct Pool {
@@ -62,7 +63,10 @@ impl Pool {
         ensures ok { OnOk result (self.new ≡ with_clause (record { name = name; lits = lits.now; uses = 0 }) self.old) }
         ensures err { OnErr result (self.new ≡ self.old) }
     {
-        if is_original_at(name, self.originals.len()) && self.table.is_empty() {
+        if is_original_at(name, self.originals.len())
+            && self.table.is_empty()
+            && self.originals.fits(lits.len())
+        {
             self.originals.push(lits)?;
             return Ok(());
         }

@@ -11,6 +11,7 @@ use Rattle.std.proofs.lemmas.List.Folds.{list_any-append}
 use Rattle.std.proofs.lemmas.List.Elements.{filter-append, All-cons, All-head, All-tail, All-filter}
 use Rattle.std.proofs.lemmas.Map.Views.{any-filter_same}
 use Rattle.std.proofs.Math.Seq.{take-suc}
+use Rattle.smallvec.specs.SmallVec.{SmallVec}
 use Rattle.lit_base.specs.Literal.{Literal, same}
 use Rattle.lit_base.specs.LitSet.{index_of}
 use Rattle.lit_base.specs.Distinct.{distinct}
@@ -22,6 +23,10 @@ has lits x = list_any (λ m. index_of m == index_of x) lits
 -- a list with the literal at its end, unless it is there
 abbrev pub with_new : List Literal → Literal → List Literal
 with_new kept x = cond (has kept x) kept (kept ++ x ∷ [])
+
+-- vectors that are equal have the same items
+pub items_of : {v w : SmallVec Literal} → v ≡ w → v.items ≡ w.items
+items_of e = ap (λ (v : SmallVec Literal). v.items) e
 
 beq-true : (p q : Bool) → beq p q ≡ true → p ≡ q
 beq-true true true h = refl

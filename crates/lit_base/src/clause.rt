@@ -4,10 +4,10 @@ ghost use Rattle.lit_base.specs.Literal.{IsWithin, same};
 ghost use Rattle.lit_base.specs.Distinct.{distinct};
 ghost use Rattle.lit_base.specs.Truth.{is_clause_true};
 
-use crate::list::List;
 use crate::lit::Lit;
 use crate::lit_set::LitSet;
 use crate::memory::NoMemory;
+use smallvec::SmallVec;
 use std::alloc::Global;
 use std::collections::BTreeSet;
 use std::marker::Model;
@@ -15,10 +15,13 @@ use std::marker::Model;
 /// Up to this many literals each is sought among those kept: for few that is faster than any set.
 const SHORT: usize = 32;
 
+/// How many literals lie in the clause itself; more than that have an allocation of their own.
+const INLINE: usize = 4;
+
 /// A clause: the disjunction of its literals, each of which it holds once.
 #[derive(Debug, Drop)]
 pub struct Clause {
-    lits: List<Lit>,
+    lits: SmallVec<Lit, INLINE>,
 }
 
 impl Model for Clause {
@@ -27,12 +30,12 @@ impl Model for Clause {
 
     ghost Value = { List Literal };
 
-    ghost view = { λ c. c.lits };
+    ghost view = { λ c. c.lits.items };
 
     ghost use Rattle.std.specs.List.{IsDistinct};
     ghost use Rattle.lit_base.specs.Literal.{same};
 
-    ghost invariant = { λ c. IsDistinct same c.lits };
+    ghost invariant = { λ c. IsDistinct same c.lits.items };
 }
 
 impl Clause {
@@ -61,7 +64,7 @@ impl Clause {
         }
         set.keep(lits)?;
         Ok(Clause {
-            lits: List::of(alloc, set.as_slice())?,
+            lits: SmallVec::from_slice(alloc, set.as_slice())?,
         })
     }
 
@@ -91,10 +94,10 @@ impl Clause {
     }
 }
 
-fn distinct_by_search(alloc: Global, lits: &[Lit]) -> Result<List<Lit>, NoMemory>
-    ensures { IfOk result (λ kept. kept ≡ distinct lits.now) }
+fn distinct_by_search(alloc: Global, lits: &[Lit]) -> Result<SmallVec<Lit, INLINE>, NoMemory>
+    ensures { IfOk result (λ kept. kept.items ≡ distinct lits.now) }
 {
-    let mut kept = List::new(alloc);
+    let mut kept = SmallVec::new(alloc);
     for lit in lits {
         if !kept.as_slice().contains(lit) {
             kept.push(*lit)?;
@@ -103,10 +106,10 @@ fn distinct_by_search(alloc: Global, lits: &[Lit]) -> Result<List<Lit>, NoMemory
     Ok(kept)
 }
 
-fn distinct_by_tree(alloc: Global, lits: &[Lit]) -> Result<List<Lit>, NoMemory>
-    ensures { IfOk result (λ kept. kept ≡ distinct lits.now) }
+fn distinct_by_tree(alloc: Global, lits: &[Lit]) -> Result<SmallVec<Lit, INLINE>, NoMemory>
+    ensures { IfOk result (λ kept. kept.items ≡ distinct lits.now) }
 {
-    let mut kept = List::new(alloc);
+    let mut kept = SmallVec::new(alloc);
     let mut met = BTreeSet::new(alloc);
     for lit in lits {
         if met.insert(lit.index())? {

@@ -1,6 +1,8 @@
 ghost use Rattle.std.specs.Prelude.{◌≡◌, ℕ, ◌+◌, ◌*◌, ◌≤◌, ◌⊎◌, ◌==◌, ◌<◌, ◌/◌, ◌%◌, ◌↔◌, Bool, IsNone, IfSome, IsTrue, unsigned_abs, if◌then◌else◌};
 ghost use Rattle.lit_base.specs.Literal.{Literal, negation, dimacs_number};
 
+use std::alloc::Global;
+use std::default::MadeWith;
 use std::marker::Model;
 
 /// The largest variable.
@@ -25,6 +27,13 @@ impl Model for Lit {
     ghost invariant = { λ l. (2 ≤ l.code) × (l.code ≤ 2000001) };
 
     ghost inverse = { λ l. record { code = 2 * l.variable + (if l.positive then 0 else 1) } };
+}
+
+/// What stands in the unused places of a short clause.
+impl MadeWith<Global> for Lit {
+    fn made_with(_alloc: Global) -> Lit {
+        Lit { code: 2 }
+    }
 }
 
 impl Lit {

@@ -22,6 +22,9 @@ use lit_base::{Lit, Name};
 use std::sync::ledger::Ledger;
 use trail_book::Trail;
 
+/// The list of fresh clauses keeps room for up to so many from one propagation to the next.
+const MOST_ROOM: usize = 1024;
+
 /// Reads each fresh clause once, and links it or puts it aside; after it none is fresh.
 pub(crate) fn begin_fresh<L: Ledger>(
     table: &mut Table,
@@ -42,6 +45,16 @@ pub(crate) fn begin_fresh<L: Ledger>(
 {
     while let Some(next) = fresh.pop() {
         begin(table, shorts, pool, trail, next.name, steps);
+    }
+    give_back(fresh);
+}
+
+/// Gives back the room of very many fresh clauses: so many come at once only with the formula.
+fn give_back(fresh: &mut Vec<Fresh>)
+    ensures { fresh.new.items ≡ fresh.old.items }
+{
+    if fresh.capacity() > MOST_ROOM {
+        fresh.shrink_to_fit();
     }
 }
 

@@ -1,7 +1,7 @@
 use Rattle.std.proofs.Common.{◌≡◌, ◌+◌, length, reverse, ap, ◌∙◌, ◌∷◌, [], ◌++◌, arith}
 use Rattle.std.proofs.lemmas.List.{reverse-append, length-append}
 use Rattle.clause_pool.specs.Arena.{parts_of}
-use Rattle.clause_pool.proofs.Parts.{parts_added}
+use Rattle.clause_pool.proofs.Parts.{parts_added, arena_size}
 use Rattle.clause_pool.proofs.originals.Originals.push.Goals as goal
 
 -- the part that was added is the clause
@@ -16,3 +16,10 @@ returns-clause-ok c =
     ap (λ xs. parts_of xs (reverse c.push_reserved.new.self.items)) grown
     ∙ (ap (λ es. parts_of (literals ++ c.args.lits.now) es) more
     ∙ (parts_added literals c.args.lits.now (reverse ends) c.len.result c.self.invariant end ∙ ap (λ parts. c.args.lits.now ∷ parts) c.self.view_is))
+
+-- the end counts literals, of which there are fewer than 2^32
+pub overflow_cast-len : goal.overflow_cast-len
+overflow_cast-len c =
+    let literals = c.self.inside.literals.items in
+    let size = arena_size literals _ _ c.self.invariant c.self.view_is in
+    omega (arith, size, c.requires, c.len.ensures, ap length c.in_ok-extend_from_slice.ensures.items, length-append literals c.args.lits.now)

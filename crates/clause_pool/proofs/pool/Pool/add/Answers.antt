@@ -10,8 +10,8 @@ use Rattle.clause_pool.proofs.Pooling.{pool_added}
 use Rattle.clause_pool.proofs.pool.Pool.add.Goals as goal
 
 -- an original is pushed behind those before it
-pub invariant_of-self-then-is_empty : goal.invariant_of-self-then-is_empty
-invariant_of-self-then-is_empty c =
+pub invariant_of-self-then-fits : goal.invariant_of-self-then-fits
+invariant_of-self-then-fits c =
     let none : c.self.inside.table ≡ [] = nil_from_length c.self.inside.table (eqb-true (length c.self.inside.table) 0 (sym c.is_empty.ensures ∙ c.if-is_empty.true)) in
     let named : c.args.name ≡ original (length c.self.inside.originals) = c.is_original_at.ensures.0 c.if-is_original_at.true ∙ ap original c.len.ensures in
     subst IsPool (sym (rows_pushed c.self.inside.table c.self.inside.originals c.push.new.self c.args.name c.args.lits.now none named c.in_ok-push.ensures.ok))

@@ -7,4 +7,4 @@ use Rattle.lit_base.proofs.clause.Clause.with_set.Goals as goal
 -- the distinct literals are distinct
 pub invariant_of-result : goal.invariant_of-result
 invariant_of-result c =
-    subst (IsDistinct same) (sym (c.in_ok-of.ensures ∙ c.as_slice.ensures ∙ c.in_ok-keep.ensures.ok)) (distinct_apart c.args.lits.now)
+    subst (IsDistinct same) (sym (c.in_ok-from_slice.ensures.ok ∙ c.as_slice.ensures ∙ c.in_ok-keep.ensures.ok)) (distinct_apart c.args.lits.now)
