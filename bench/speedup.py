@@ -1,7 +1,8 @@
 #!/usr/bin/env python3
 """Measures what workers give: the wall time of the same run of four cores with 1, 2 and 4 workers.
 
-    bench/speedup.py [--program PATH] [--cores N] [--runs N] [--only WORD] [--workers LIST] [--out FILE.json]
+    bench/speedup.py [--program PATH] [--against PROGRAM] [--cores N] [--runs N] [--only WORD] [--workers LIST]
+                     [--out FILE.json]
 
 Formulas are some of those of bench/solving.py, each with a limit of conflicts, so that a run takes some seconds. For each the
 numbers of workers go round, N times; the answer with its trace must be the same bytes each time, else the script ends with 1.
@@ -9,6 +10,10 @@ For each number of workers stand the least wall time, how many times as fast tha
 threads by that wall time (how many processors were busy on average), and the share of the wall time in which the caller's
 thread was alone: reading, what happens between stretches, writing, and what is left of the stretches of its own cores when
 the other threads have ended theirs. That share is of samples, one every two milliseconds.
+
+With `--against` another built program does the same work, its runs between those of the first and each second time before it.
+Its answers must be the same bytes too. Its figures stand below those of the first, with its least wall time by that of the
+first with as many workers (above 1 the first is faster); at the end stand the geometric means of that ratio.
 """
 import argparse
 import hashlib
@@ -63,17 +68,48 @@ def timed(command):
         return {'wall': wall, 'busy': busy, 'alone': alone / max(samples, 1), 'answer': '%d %s' % (child.returncode, digest)}
 
 
-def measure(program, path, limit, cores, workers, runs):
-    """The run of least wall time for each number of workers, and whether all answers were the same."""
-    best, answers = {}, set()
-    for _ in range(runs):
+def measure(programs, path, limit, cores, workers, runs):
+    """For each program the run of least wall time for each number of workers, and whether all answers were the same."""
+    best, answers = [{} for _ in programs], set()
+    for number in range(runs):
         for count in workers:
-            figures = timed([program, 'solve', path, '--cores', str(cores), '--workers', str(count), '--limit', str(limit),
-                             '--trace'])
-            answers.add(figures['answer'])
-            if count not in best or figures['wall'] < best[count]['wall']:
-                best[count] = figures
+            for kept, program in list(zip(best, programs))[::-1 if number % 2 else 1]:
+                figures = timed([program, 'solve', path, '--cores', str(cores), '--workers', str(count), '--limit', str(limit),
+                                 '--trace'])
+                answers.add(figures['answer'])
+                if count not in kept or figures['wall'] < kept[count]['wall']:
+                    kept[count] = figures
     return best, len(answers) == 1
+
+
+def report(name, limit, best):
+    """A line for each number of workers, and one of the other program below it."""
+    for count in best[0]:
+        for number, kept in enumerate(best):
+            figures, first = kept[count], kept[next(iter(kept))]['wall']
+            line = ('%-16s limit %6d  %2d workers %8.2f s, %.2f times as fast, %.2f processors busy, caller alone %4.1f %%'
+                    % (name, limit, count, figures['wall'], first / figures['wall'], figures['busy'] / figures['wall'],
+                       100 * figures['alone']))
+            if number > 0:
+                line += ', by the other program: %.3f of the first' % (figures['wall'] / best[0][count]['wall'])
+            print(line)
+    sys.stdout.flush()
+
+
+def geometric_mean(ratios):
+    return math.exp(sum(map(math.log, ratios)) / len(ratios))
+
+
+def report_means(kept, workers):
+    """Over all files: what workers give each program, and the other program's time by the first's."""
+    for count in workers:
+        for number, program in enumerate(('', ', by the other program')[:len(kept[0])]):
+            ratio = geometric_mean([best[number][workers[0]]['wall'] / best[number][count]['wall'] for best in kept])
+            print('%2d workers: %.2f times as fast as %d%s (geometric mean of %d files)'
+                  % (count, ratio, workers[0], program, len(kept)))
+    for count in workers if len(kept[0]) > 1 else ():
+        ratio = geometric_mean([best[1][count]['wall'] / best[0][count]['wall'] for best in kept])
+        print("%2d workers: the other program's time is %.3f of the first's (geometric mean of %d files)" % (count, ratio, len(kept)))
 
 
 def main():
@@ -83,9 +119,11 @@ def main():
     parser.add_argument('--runs', type=int, default=3)
     parser.add_argument('--only', default='')
     parser.add_argument('--workers', default='1,2,4')
+    parser.add_argument('--against')
     parser.add_argument('--out')
     args = parser.parse_args()
     workers = [int(count) for count in args.workers.split(',')]
+    programs = [args.program] + ([args.against] if args.against else [])
     formulas = solving()
     makers = {name: make for name, make, _ in formulas.files()}
     kept, differ = {}, []
@@ -95,20 +133,14 @@ def main():
             if args.only not in name:
                 continue
             formulas.write_formula(path, makers[name]())
-            kept[name], same = measure(args.program, path, limit, args.cores, workers, args.runs)
+            kept[name], same = measure(programs, path, limit, args.cores, workers, args.runs)
             differ += [] if same else [name]
-            for count, figures in kept[name].items():
-                print('%-16s limit %6d  %2d workers %8.2f s, %.2f times as fast, %.2f processors busy, caller alone %4.1f %%'
-                      % (name, limit, count, figures['wall'], kept[name][workers[0]]['wall'] / figures['wall'],
-                         figures['busy'] / figures['wall'], 100 * figures['alone']))
-            sys.stdout.flush()
-    for count in workers:
-        ratios = [rows[workers[0]]['wall'] / rows[count]['wall'] for rows in kept.values()]
-        print('%2d workers: %.2f times as fast as %d (geometric mean of %d files)'
-              % (count, math.exp(sum(map(math.log, ratios)) / len(ratios)), workers[0], len(ratios)))
+            report(name, limit, kept[name])
+    report_means(list(kept.values()), workers)
     if args.out:
+        figures = [{name: best[number] for name, best in kept.items()} for number in range(len(programs))]
         with open(args.out, 'w') as out:
-            json.dump({'cores': args.cores, 'runs': args.runs, 'files': kept}, out, indent=1)
+            json.dump({'cores': args.cores, 'runs': args.runs, 'files': figures[0], 'against': figures[1:]}, out, indent=1)
     print('\n'.join('%s: answers differ' % name for name in differ))
     return 1 if differ else 0
 
