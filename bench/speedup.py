@@ -109,7 +109,8 @@ def report_means(kept, workers):
                   % (count, ratio, workers[0], program, len(kept)))
     for count in workers if len(kept[0]) > 1 else ():
         ratio = geometric_mean([best[1][count]['wall'] / best[0][count]['wall'] for best in kept])
-        print("%2d workers: the other program's time is %.3f of the first's (geometric mean of %d files)" % (count, ratio, len(kept)))
+        print("%2d workers: the other program's time is %.3f of the first's (geometric mean of %d files)"
+              % (count, ratio, len(kept)))
 
 
 def main():
