@@ -10,6 +10,8 @@ pub mod Whole
 pub mod Ports
 pub mod Complete
 pub mod Ends
+pub mod Fits
+pub mod Refusals
 pub mod SolveSentences
 pub mod CheckSentences
 pub mod TextSentences

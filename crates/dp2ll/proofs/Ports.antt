@@ -1,5 +1,5 @@
 -- What a run leaves on log and answer.
-use Rattle.std.proofs.Common.{◌≡◌, ◌⊎◌, ℕ, Bool, List, [], append-nil, ap, inl, inr, rules, Option, Some, None}
+use Rattle.std.proofs.Common.{◌≡◌, ◌⊎◌, ◌∙◌, ℕ, Bool, List, [], ◌∷◌, ◌++◌, length, append-nil, length-append, ap, sym, subst, refl, arith, inl, inr, rules, Option, Some, None}
 use Rattle.solo_core.specs.declared.sheet.Settings.{Settings}
 use Rattle.crew.specs.Log.{log_text}
 use Rattle.job_words.specs.declared.job.Job.{Job}
@@ -9,16 +9,17 @@ use Rattle.dp2ll.specs.declared.ending.WriteStop.{WriteStop}
 use Rattle.dp2ll.specs.declared.ending.WriteStop.TheVariants as writing
 use Rattle.dp2ll.specs.declared.ending.Ending.{Ending}
 use Rattle.dp2ll.specs.declared.ending.Ending.TheVariants.{Answered, Judged, Written, Usage, Unread, Unjudged, Unwritten, NoMemory}
-use Rattle.desk_io.specs.Told.{InputsTold}
+use Rattle.desk_io.specs.Told.{InputsTold, PortTold, raised}
 use Rattle.dp2ll.specs.declared.finding.Finding.{Finding}
-use Rattle.dp2ll.specs.declared.finding.Finding.TheVariants.{Verified}
-use Rattle.dp2ll.specs.Ending.{status_of, finding_text}
+use Rattle.dp2ll.specs.declared.finding.Finding.TheVariants.{Verified, Flawed}
+use Rattle.dp2ll.specs.Ending.{verdict_status, status_of, finding_text, complaint_of}
+use Rattle.dp2ll.specs.Complaint.{Tells, Complains}
 use Rattle.dp2ll.specs.Outcome.{answer_of}
-use Rattle.dp2ll.specs.Logging.{LogTold, LogsFault, LogsPart}
+use Rattle.dp2ll.specs.Logging.{LogTold, names_with, LogsWhole, LogsFault, LogsPart}
 use Rattle.dp2ll.specs.Answering.{Page, WritesBoth, WritesFronts, CutsTexts}
 use Rattle.dp2ll.specs.Making.{gen_text, race_text}
 use Rattle.dp2ll.specs.Serving.{Desk, SolveCause, CheckCause, TextCause, Serves}
-use Rattle.dp2ll.specs.Headline.{WritesOwn, SaysOwn, LeavesOwn, HasNoLog, IsSilent}
+use Rattle.dp2ll.specs.Headline.{WritesOwn, SaysOwn, LeavesOwn, HasNoLog, IsSilent, IsVerdict, log_of, CreatesOnce, StaysUnemptied}
 
 -- whole texts are fronts
 pub whole_front : (log : Option (List ℕ)) (log_bytes answer_bytes : List ℕ) (before after : Page) → WritesBoth log log_bytes answer_bytes before after
@@ -183,3 +184,88 @@ unlogged (Some (Check file proof)) before after none (inr own) =
     unlogged_texts (finding_text own.finding) (finding_text own.finding) before.page after.page own.texts
 unlogged (Some (Gen kind n seed)) before after none (inr own) = unlogged_texts (gen_text kind n seed) (gen_text kind n seed) before.page after.page own
 unlogged (Some (Race kind n settings)) before after none (inr own) = unlogged_texts (race_text kind n settings) (race_text kind n settings) before.page after.page own
+
+-- texts are written behind at most one creation of a log
+created_once : (log : Option (List ℕ)) (log_bytes answer_bytes : List ℕ) (before after : Page) → WritesFronts log log_bytes answer_bytes before after
+    → CreatesOnce log before.log after.log
+created_once None log_bytes answer_bytes before after texts = unlogged_texts log_bytes answer_bytes before after texts
+created_once (Some name) log_bytes answer_bytes before after (inr cut) = inr cut.logged.creates
+created_once (Some name) log_bytes answer_bytes before after (inl cut) = inr (by cut.part)
+  where
+    by : LogsPart (Some name) log_bytes before.log after.log → after.log.creates ≡ raised before.log.creates
+    by (inl part) = part.creates
+    by (inr lacks) = lacks.creates
+
+-- a page that stays has no log created
+same_once : (log : Option (List ℕ)) (before after : LogTold) → after ≡ before → CreatesOnce log before after
+same_once None before after same = same
+same_once (Some name) before after same = inl (ap (λ (l : LogTold). l.creates) same)
+
+-- a log is created at most once, where one is named
+pub creates_once : (job : Option Job) (before after : Desk) → (after.page ≡ before.page) ⊎ LeavesOwn job before after
+    → CreatesOnce (log_of job) before.page.log after.page.log
+creates_once job before after (inl same) = same_once (log_of job) before.page.log after.page.log (ap (λ (page : Page). page.log) same)
+creates_once None before after (inr own) = absurd own
+creates_once (Some (Solve file settings workers log trace)) before after (inr own) = created_once log _ _ before.page after.page own.texts
+creates_once (Some (Check file proof)) before after (inr own) = unlogged_texts _ _ before.page after.page own.texts
+creates_once (Some (Gen kind n seed)) before after (inr own) = unlogged_texts _ _ before.page after.page own
+creates_once (Some (Race kind n settings)) before after (inr own) = unlogged_texts _ _ before.page after.page own
+
+-- names that have one more aren't the same
+never_same : (names : List (List ℕ)) (name : List ℕ) → Some (names ++ name ∷ []) ≡ Some names → ⊥
+never_same names name same =
+    let lists : names ++ name ∷ [] ≡ names = cc in
+    omega (arith, ap length lists, length-append names (name ∷ []))
+
+-- where a name was added, none is missing
+grown_names : (before after : LogTold) (name : List ℕ) → after.names ≡ names_with before.names name → StaysUnemptied before after
+grown_names before after name grown = λ names known now.
+    absurd (never_same names name (subst (λ (n : Option (List (List ℕ))). names_with n name ≡ Some names) known (sym grown ∙ now)))
+
+-- a log whose name wasn't added holds what it held
+unemptied_texts : (log : Option (List ℕ)) (log_bytes answer_bytes : List ℕ) (before after : Page) → WritesFronts log log_bytes answer_bytes before after
+    → StaysUnemptied before.log after.log
+unemptied_texts None log_bytes answer_bytes before after texts = λ names known now.
+    ap (λ (l : LogTold). l.port.written) (unlogged_texts log_bytes answer_bytes before after texts)
+unemptied_texts (Some name) log_bytes answer_bytes before after (inr cut) = grown_names before.log after.log name cut.logged.names
+unemptied_texts (Some name) log_bytes answer_bytes before after (inl cut) = by cut.part
+  where
+    by : LogsPart (Some name) log_bytes before.log after.log → StaysUnemptied before.log after.log
+    by (inl part) = grown_names before.log after.log name part.names
+    by (inr lacks) = λ names known now. lacks.written
+
+-- the same of a run
+pub stays_unemptied : (job : Option Job) (before after : Desk) → (after.page ≡ before.page) ⊎ LeavesOwn job before after
+    → StaysUnemptied before.page.log after.page.log
+stays_unemptied job before after (inl same) = λ names known now. ap (λ (page : Page). page.log.port.written) same
+stays_unemptied None before after (inr own) = absurd own
+stays_unemptied (Some (Solve file settings workers log trace)) before after (inr own) = unemptied_texts log _ _ before.page after.page own.texts
+stays_unemptied (Some (Check file proof)) before after (inr own) = unemptied_texts None _ _ before.page after.page own.texts
+stays_unemptied (Some (Gen kind n seed)) before after (inr own) = unemptied_texts None _ _ before.page after.page own
+stays_unemptied (Some (Race kind n settings)) before after (inr own) = unemptied_texts None _ _ before.page after.page own
+
+-- want of memory is no verdict
+never_five : (status : ℕ) → status ≡ 5 → IsVerdict status → ⊥
+never_five status five (inl ten) = omega (arith, five, ten)
+never_five status five (inr (inl twenty)) = omega (arith, five, twenty)
+never_five status five (inr (inr zero)) = omega (arith, five, zero)
+
+-- an ending with a verdict's status has no complaint
+quiet_ending : (how : Ending) → IsVerdict (status_of how) → complaint_of how ≡ None
+quiet_ending (Answered verdict) is = refl
+quiet_ending (Judged Verified) is = refl
+quiet_ending (Judged (Flawed flaw)) is = absurd (grind arith)
+quiet_ending Written is = refl
+quiet_ending Usage is = absurd (grind arith)
+quiet_ending (Unread stop) is = absurd (search rules)
+quiet_ending (Unjudged stop) is = absurd (search rules)
+quiet_ending (Unwritten stop) is = absurd (search rules)
+quiet_ending NoMemory is = absurd (grind arith)
+
+-- at the status of a verdict the complaint port stays
+pub quiet_run : (how : Ending) (status : ℕ) (before after : PortTold) → Complains (complaint_of how) (status_of how) before after status
+    → IsVerdict status → after ≡ before
+quiet_run how status before after (inl (is, tells)) verdict =
+    let none = quiet_ending how (subst (λ s. IsVerdict s) is verdict) in
+    subst (λ c. Tells c before after) none tells
+quiet_run how status before after (inr (five, front)) verdict = absurd (never_five status five verdict)

@@ -5,6 +5,7 @@ use Rattle.desk_io.specs.declared.Slot.TheVariants.{Proof}
 use Rattle.desk_io.specs.declared.Port.TheVariants.{Complaint}
 use Rattle.cnf_text.specs.Laws.{EarlyFaultStays, EndEndsInput}
 use Rattle.lrat_check.specs.Laws.{FaultRefuses}
+use Rattle.cnf_text.specs.declared.fault.CnfFault.{CnfFault}
 use Rattle.job_words.specs.declared.job.Job.{Job}
 use Rattle.job_words.specs.declared.job.Job.TheVariants.{Solve, Check, Gen, Race}
 use Rattle.dp2ll.specs.declared.ending.ReadStop.TheVariants as reading
@@ -19,7 +20,9 @@ use Rattle.dp2ll.specs.Serving.{Desk, RefuseCause, CheckCause, Serves}
 use Rattle.dp2ll.specs.Headline.{Run, Headline, desk_before, desk_after, EndsBy, IsFaulty, ReadsFile, WantsMemory, IsRefusal, IsSilent, KeepsPorts, Sentences}
 use Rattle.dp2ll.proofs.Statuses.{at_one, at_two, at_three, at_four}
 use Rattle.dp2ll.proofs.Whole.{KnowsReading}
-use Rattle.dp2ll.proofs.Ports.{served_texts, silent_run, unlogged}
+use Rattle.dp2ll.proofs.Ports.{served_texts, silent_run, unlogged, creates_once, stays_unemptied, quiet_run}
+use Rattle.dp2ll.proofs.Fits.{run_fits}
+use Rattle.dp2ll.proofs.Refusals.{begins_once, names_faulty, names_slot, names_port, faulty_stops}
 use Rattle.dp2ll.proofs.Ends.{own_of, ends_by}
 use Rattle.dp2ll.proofs.SolveSentences.{solve_sentences}
 use Rattle.dp2ll.proofs.TextSentences.{text_sentences}
@@ -125,18 +128,33 @@ inputs_of (Some (Race kind n settings)) before after how (inl writes) = writes.u
 inputs_of (Some (Gen kind n seed)) before after how (inr gives_up) = ap (λ (d : Desk). d.inputs) gives_up.untouched
 inputs_of (Some (Race kind n settings)) before after how (inr gives_up) = ap (λ (d : Desk). d.inputs) gives_up.untouched
 
+-- status 2 comes by its cause
+no_formula_of : (run : Run) → Headline run → run.status ≡ 2 → (fault : CnfFault) × EndsBy run (Unread (reading.NoFormula fault))
+no_formula_of run h two =
+    let own = own_of run h 2 two (λ e. omega arith) in
+    let at = at_two h.how own.0 in
+    (at.0, ends_by run h (Unread (reading.NoFormula at.0)) at.1 own.1 (λ refused. refused))
+
 -- statuses 2 to 5 come by their causes
-refusal_of : (run : Run) → Headline run → IsRefusal run
-refusal_of run h = record {
-  no_formula = λ two.
-      let own = own_of run h 2 two (λ e. omega arith) in
-      let at = at_two h.how own.0 in
-      (at.0, ends_by run h (Unread (reading.NoFormula at.0)) at.1 own.1 (λ refused. refused));
-  unread = λ three. let own = own_of run h 3 three (λ e. omega arith) in unread_of run h own.1 (at_three h.how own.0);
-  unwritten = λ four. let own = own_of run h 4 four (λ e. omega arith) in unwritten_of run h own.1 (at_four h.how own.0);
-  no_memory = memory_of run h;
-  inputs = inputs_of run.job (desk_before run) (desk_after run) h.how h.serves;
-}
+refusal_of : KnowsReading → (run : Run) → Headline run → IsRefusal run
+refusal_of laws run h =
+    let unread : run.status ≡ 3 → EndsBy run (Unread reading.ReadFault) ⊎ EndsBy run (Unjudged proof.ReadFault) =
+    λ three. let own = own_of run h 3 three (λ e. omega arith) in unread_of run h own.1 (at_three h.how own.0) in
+    let unwritten : run.status ≡ 4 → EndsBy run (Unwritten writing.LogFault) ⊎ EndsBy run (Unwritten writing.AnswerFault) =
+    λ four. let own = own_of run h 4 four (λ e. omega arith) in unwritten_of run h own.1 (at_four h.how own.0) in
+    let inputs = inputs_of run.job (desk_before run) (desk_after run) h.how h.serves in
+    record {
+      no_formula = no_formula_of run h;
+      unread = unread;
+      unwritten = unwritten;
+      no_memory = memory_of run h;
+      inputs = inputs;
+      begins = begins_once run.job run.inputs_before run.inputs_after inputs;
+      names_fault = λ two. let ends = no_formula_of run h two in names_faulty laws run ends.0 ends.1;
+      names_file = λ three. names_slot laws run (unread three);
+      names_port = λ four. names_port laws run (unwritten four);
+      stops = faulty_stops laws run h;
+    }
 
 -- a silent status is the ending's own
 silent_own : (complaint : Option (List ℕ)) (own status : ℕ) (before after : PortTold) → Complains complaint own before after status
@@ -153,6 +171,9 @@ ports_of run h =
       silent = λ silent. silent_run run.job (desk_before run) (desk_after run) h.how
           (silent_own (complaint_of h.how) (status_of h.how) run.status (run.before.at Complaint) (run.after.at Complaint) h.complains silent) h.serves;
       no_log = λ none. unlogged run.job (desk_before run) (desk_after run) none texts;
+      creates = creates_once run.job (desk_before run) (desk_after run) texts;
+      unemptied = stays_unemptied run.job (desk_before run) (desk_after run) texts;
+      quiet = quiet_run h.how run.status (run.before.at Complaint) (run.after.at Complaint) h.complains;
       complaint = h;
     }
 
@@ -163,10 +184,15 @@ sentences_of stays ends refuses run h =
     let some = some_ending (complaint_of h.how) h.how run.status (run.before.at Complaint) (run.after.at Complaint) h.complains in
     record {
       words = record { faulty = faulty_of run h; refused = refused_words run h };
-      status = record { ending = some.0; status = some.1 };
+      status = record {
+        ending = some.0;
+        status = some.1;
+        fits = run_fits run.job (desk_before run) (desk_after run) h.how (complaint_of h.how) run.status (run.before.at Complaint)
+            (run.after.at Complaint) h.serves h.complains;
+      };
       solve = solve_sentences laws run h;
       check = check_sentences laws refuses run h;
       text = text_sentences run h;
-      refused = refusal_of run h;
+      refused = refusal_of laws run h;
       ports = ports_of run h;
     }

@@ -1,13 +1,15 @@
 -- What a run of the program promises: its status, its answer, its log and its complaint, and when each comes.
-use Rattle.std.specs.Prelude.{◌≡◌, ◌⊎◌, ◌↔◌, ℕ, List, Bool, false, if◌then◌else◌, ◌++◌, codes, Option, Some, None, Result, Ok, Err, String, string_bytes, map}
+use Rattle.std.specs.Prelude.{◌≡◌, ◌⊎◌, ◌↔◌, ℕ, List, Bool, false, if◌then◌else◌, ◌++◌, codes, Option, Some, None, IsSome, Result, Ok, Err, String, string_bytes, map}
 use Rattle.std.specs.declared.alloc.Global.{Global}
 use Rattle.std.specs.Io.KnownBytes.{append_known}
 use Rattle.lit_base.specs.Cnf.{Cnf}
 use Rattle.lit_base.specs.Text.{values_text}
 use Rattle.lit_base.specs.Judgement.{checks, Checks, HasNoModel}
 use Rattle.lrat_text.specs.Reading.{Steps, proof_steps}
-use Rattle.desk_io.specs.Told.{InputsTold, OutputsTold, Rose}
+use Rattle.desk_io.specs.Told.{InputsTold, SlotTold, OutputsTold, raised, Rose}
+use Rattle.desk_io.specs.declared.Slot.{Slot}
 use Rattle.desk_io.specs.declared.Slot.TheVariants.{Formula, Proof}
+use Rattle.desk_io.specs.declared.Port.{Port}
 use Rattle.desk_io.specs.declared.Port.TheVariants.{Answer, Log, Complaint}
 use Rattle.cnf_text.specs.declared.fault.CnfFault.{CnfFault}
 use Rattle.cnf_text.specs.Reading.{formula_of}
@@ -20,6 +22,7 @@ use Rattle.crew.specs.Outcome.{outcome_of}
 use Rattle.answer_text.specs.Answer.{trace_text}
 use Rattle.dp2ll.specs.declared.ending.ReadStop.TheVariants as reading
 use Rattle.dp2ll.specs.declared.ending.ProofStop.TheVariants as proof
+use Rattle.dp2ll.specs.declared.ending.WriteStop.{WriteStop}
 use Rattle.dp2ll.specs.declared.ending.WriteStop.TheVariants as writing
 use Rattle.dp2ll.specs.declared.finding.Flaw.{Flaw}
 use Rattle.dp2ll.specs.declared.finding.Finding.{Finding}
@@ -30,11 +33,11 @@ use Rattle.job_words.specs.Job.{job_of}
 use Rattle.dp2ll.specs.Making.{gen_text, race_text}
 use Rattle.dp2ll.specs.Ending.{verdict_status, status_of, complaint_of, finding_text, flaw_complaint}
 use Rattle.dp2ll.specs.Outcome.{answer_of, FindsModel, IsRefuted, AreAllSpent}
-use Rattle.dp2ll.specs.Logging.{log_told, LogsWhole}
+use Rattle.dp2ll.specs.Logging.{LogTold, log_told, names_with, LogsWhole}
 use Rattle.dp2ll.specs.Answering.{WritesBoth, WritesFronts}
 use Rattle.dp2ll.specs.Complaint.{Tells, TellsFront, Complains}
-use Rattle.dp2ll.specs.Reading.{BeginsSlot, BeginsFormula}
-use Rattle.dp2ll.specs.Judging.{IsFlaw}
+use Rattle.dp2ll.specs.Reading.{BeginsSlot, BeginsFormula, IsNoFormula, IsReadFault}
+use Rattle.dp2ll.specs.Judging.{IsFlaw, IsProofFault}
 use Rattle.dp2ll.specs.Serving.{Desk, desk, ReadsAs, FindsProof, ServesJob, Serves}
 
 -- one call of the program: its job, what inputs and outputs told before and after it, and its exit status
@@ -130,10 +133,27 @@ pub record IsSolved (run : Run) : Type 0 where
   pub unsatisfiable : run.status ≡ 20 → EndsBy run (Answered Unsat)
   pub given_up : run.status ≡ 0 → EndsBy run (Answered Unknown)
 
--- the status is that of an ending
+-- the statuses of a command that reads files and gives no answer
+abbrev pub IsStop : ℕ → Type 0
+IsStop status = (status ≡ 2) ⊎ ((status ≡ 3) ⊎ ((status ≡ 4) ⊎ (status ≡ 5)))
+
+-- the statuses of a run that has a verdict
+abbrev pub IsVerdict : ℕ → Type 0
+IsVerdict status = (status ≡ 10) ⊎ (status ≡ 20) ⊎ (status ≡ 0)
+
+-- the status is one of those that the job may have: no command has that of another
+abbrev pub FitsJob : Option Job → ℕ → Type 0
+FitsJob None status = (status ≡ 1) ⊎ (status ≡ 5)
+FitsJob (Some (Solve file settings workers log trace)) status = IsVerdict status ⊎ IsStop status
+FitsJob (Some (Check file proof)) status = ((status ≡ 0) ⊎ (status ≡ 6)) ⊎ IsStop status
+FitsJob (Some (Gen kind n seed)) status = (status ≡ 0) ⊎ ((status ≡ 4) ⊎ (status ≡ 5))
+FitsJob (Some (Race kind n settings)) status = (status ≡ 0) ⊎ ((status ≡ 4) ⊎ (status ≡ 5))
+
+-- the status is that of an ending, and fits the job
 pub record HasStatus (run : Run) : Type 0 where
   pub ending : Ending
   pub status : run.status ≡ status_of ending
+  pub fits : FitsJob run.job run.status
 
 -- where the file is told, it is this formula
 abbrev pub IsToldFormula : Run → List ℕ → Cnf → Type 0
@@ -162,10 +182,6 @@ pub record PrintsProof (run : Run) (file : List ℕ) (log : Option (List ℕ)) (
 -- at status 20 the proof checks, and a log that is named holds exactly its lines
 abbrev pub IsRefutation : Run → Type 0
 IsRefutation run = run.status ≡ 20 → OnSolve run.job (λ file log settings trace. PrintsProof run file log settings)
-
--- the statuses of a run that has a verdict
-abbrev pub IsVerdict : ℕ → Type 0
-IsVerdict status = (status ≡ 10) ⊎ (status ≡ 20) ⊎ (status ≡ 0)
 
 -- the status is 0 exactly where each core has spent its limit on the formula, which is the file's
 pub record GivesUpSpent (run : Run) (file : List ℕ) (settings : Settings) : Type 0 where
@@ -198,6 +214,101 @@ pub record WantsMemory (run : Run) : Type 0 where
   pub complaint : ((status_of how ≡ 5) × Tells (complaint_of how) (run.before.at Complaint) (run.after.at Complaint))
       ⊎ TellsFront (complaint_of how) (run.before.at Complaint) (run.after.at Complaint)
 
+-- the file that the job names for a slot, where it names one
+abbrev pub file_of : Option Job → Slot → Option (List ℕ)
+file_of None slot = None
+file_of (Some (Solve file settings workers log trace)) Formula = Some file
+file_of (Some (Solve file settings workers log trace)) Proof = None
+file_of (Some (Check file proof)) Formula = Some file
+file_of (Some (Check file proof)) Proof = Some proof
+file_of (Some (Gen kind n seed)) slot = None
+file_of (Some (Race kind n settings)) slot = None
+
+-- the log that the job names, where it names one
+abbrev pub log_of : Option Job → Option (List ℕ)
+log_of None = None
+log_of (Some (Solve file settings workers log trace)) = log
+log_of (Some (Check file proof)) = None
+log_of (Some (Gen kind n seed)) = None
+log_of (Some (Race kind n settings)) = None
+
+-- a slot for which the job names a file is begun at most once; any other stays as it was
+abbrev pub BeginsOnce : Option (List ℕ) → SlotTold → SlotTold → Type 0
+BeginsOnce None before after = after ≡ before
+BeginsOnce (Some file) before after = (after.begins ≡ before.begins) ⊎ (after.begins ≡ raised before.begins)
+
+-- where the file is told, it is no formula, by this fault
+abbrev pub IsFaultyFile : Run → List ℕ → CnfFault → Type 0
+IsFaultyFile run file fault = (bytes : List ℕ) → run.inputs_before.held Formula file ≡ Some bytes → formula_of bytes ≡ Err fault
+
+-- what was taken of the job's file for the formula has this fault already, or has it as the whole, and the complaint names it
+-- with its line
+pub record NamesFaulty (run : Run) (file : List ℕ) (fault : CnfFault) : Type 0 where
+  pub named : file_of run.job Formula ≡ Some file
+  pub stops : IsNoFormula (run.inputs_before.held Formula file) (run.inputs_after.at Formula).left fault
+  pub told : IsFaultyFile run file fault
+  pub complaint : Tells (complaint_of (Unread (reading.NoFormula fault))) (run.before.at Complaint) (run.after.at Complaint)
+
+-- the slot of the formula was begun with the job's file, told or not, a call on it failed, what was taken of the file decides
+-- nothing yet, and the complaint says so
+pub record CannotReadFormula (run : Run) (file : List ℕ) : Type 0 where
+  pub named : file_of run.job Formula ≡ Some file
+  pub begun : (run.inputs_after.at Formula).begun ≡ run.inputs_before.held Formula file
+  pub stops : IsReadFault (run.inputs_before.held Formula file) (run.inputs_after.at Formula).left (run.inputs_before.at Formula).faults
+      (run.inputs_after.at Formula).faults
+  pub complaint : Tells (complaint_of (Unread reading.ReadFault)) (run.before.at Complaint) (run.after.at Complaint)
+
+-- the same of the proof's slot, where the job's file for the formula is one
+pub record CannotReadProof (run : Run) (file proof_file : List ℕ) : Type 0 where
+  pub cnf : Cnf
+  pub named : (file_of run.job Formula ≡ Some file) × (file_of run.job Proof ≡ Some proof_file)
+  pub told : IsToldFormula run file cnf
+  pub begun : (run.inputs_after.at Proof).begun ≡ run.inputs_before.held Proof proof_file
+  pub stops : IsProofFault cnf (run.inputs_before.held Proof proof_file) (run.inputs_after.at Proof).left (run.inputs_before.at Proof).faults
+      (run.inputs_after.at Proof).faults
+  pub complaint : Tells (complaint_of (Unjudged proof.ReadFault)) (run.before.at Complaint) (run.after.at Complaint)
+
+-- the file that the complaint names could not be read
+abbrev pub CannotRead : Run → Type 0
+CannotRead run =
+    ((file : List ℕ) × CannotReadFormula run file) ⊎ ((file : List ℕ) × ((proof_file : List ℕ) × CannotReadProof run file proof_file))
+
+-- a call on the port failed, and the complaint says so
+pub record CannotWrite (run : Run) (port : Port) (stop : WriteStop) : Type 0 where
+  pub rose : Rose (run.before.at port).faults (run.after.at port).faults
+  pub complaint : Tells (complaint_of (Unwritten stop)) (run.before.at Complaint) (run.after.at Complaint)
+
+-- a log that is named was created once, under its name; without one nothing of logs changed
+abbrev pub GrowsByName : Option (List ℕ) → LogTold → LogTold → Type 0
+GrowsByName None before after = after ≡ before
+GrowsByName (Some name) before after = (after.creates ≡ raised before.creates) × (after.names ≡ names_with before.names name)
+
+-- where the job names a file for the formula, it is one
+abbrev pub ReadsFormula : Run → Type 0
+ReadsFormula run = (file : List ℕ) → file_of run.job Formula ≡ Some file → (cnf : Cnf) × IsToldFormula run file cnf
+
+-- the log that the job names, or the answer, could not be written, behind a formula that was read
+pub record IsUnwrittenRun (run : Run) : Type 0 where
+  pub port : (IsSome (log_of run.job) × CannotWrite run Log writing.LogFault) ⊎ CannotWrite run Answer writing.AnswerFault
+  pub names : GrowsByName (log_of run.job) (log_told run.before) (log_told run.after)
+  pub formula : ReadsFormula run
+
+-- the file has this fault, and the complaint says so
+pub record RefusesFile (fault : CnfFault) (run : Run) : Type 0 where
+  pub status : run.status ≡ 2
+  pub complaint : Tells (complaint_of (Unread (reading.NoFormula fault))) (run.before.at Complaint) (run.after.at Complaint)
+
+-- the run ended at its file, which has this fault, or before it: neither log nor answer was touched
+pub record StopsAtFile (run : Run) (file : List ℕ) (fault : CnfFault) : Type 0 where
+  pub ended : RefusesFile fault run ⊎ (((run.status ≡ 3) × CannotReadFormula run file) ⊎ (run.status ≡ 5))
+  pub untouched : (desk_after run).page ≡ (desk_before run).page
+
+-- a told file that is no formula ends the run, whatever failed
+abbrev pub FaultyFileStops : Run → Type 0
+FaultyFileStops run =
+    (file bytes : List ℕ) (fault : CnfFault) → file_of run.job Formula ≡ Some file → run.inputs_before.held Formula file ≡ Some bytes
+    → formula_of bytes ≡ Err fault → StopsAtFile run file fault
+
 -- statuses 2 to 5 come only by their causes, with the complaint of that cause, and whatever comes, only the job's file is begun
 pub record IsRefusal (run : Run) : Type 0 where
   pub no_formula : run.status ≡ 2 → (fault : CnfFault) × EndsBy run (Unread (reading.NoFormula fault))
@@ -205,6 +316,11 @@ pub record IsRefusal (run : Run) : Type 0 where
   pub unwritten : run.status ≡ 4 → EndsBy run (Unwritten writing.LogFault) ⊎ EndsBy run (Unwritten writing.AnswerFault)
   pub no_memory : run.status ≡ 5 → WantsMemory run
   pub inputs : ReadsFile run.job run.inputs_before run.inputs_after
+  pub begins : (slot : Slot) → BeginsOnce (file_of run.job slot) (run.inputs_before.at slot) (run.inputs_after.at slot)
+  pub names_fault : run.status ≡ 2 → (file : List ℕ) × ((fault : CnfFault) × NamesFaulty run file fault)
+  pub names_file : run.status ≡ 3 → CannotRead run
+  pub names_port : run.status ≡ 4 → IsUnwrittenRun run
+  pub stops : FaultyFileStops run
 
 -- the file is this formula, and of the texts of its run a front of the log stands and nothing of the answer, or the whole log
 -- and a front of the answer
@@ -241,11 +357,23 @@ HasNoLog (Some (Race kind n settings)) = Unit {0}
 abbrev pub IsSilent : ℕ → Type 0
 IsSilent status = (status ≡ 1) ⊎ (status ≡ 2) ⊎ (status ≡ 3)
 
+-- a log is created at most once, where one is named; else nothing of logs changes
+abbrev pub CreatesOnce : Option (List ℕ) → LogTold → LogTold → Type 0
+CreatesOnce None before after = after ≡ before
+CreatesOnce (Some name) before after = (after.creates ≡ before.creates) ⊎ (after.creates ≡ raised before.creates)
+
+-- where the names of logs are told and none was added, the log port holds what it held
+abbrev pub StaysUnemptied : LogTold → LogTold → Type 0
+StaysUnemptied before after = (names : List (List ℕ)) → before.names ≡ Some names → after.names ≡ Some names → after.port.written ≡ before.port.written
+
 -- what stands on the ports at every return: on log and answer the file's own texts, and the complaint of how the run ended
 pub record KeepsPorts (run : Run) : Type 0 where
   pub texts : ((desk_after run).page ≡ (desk_before run).page) ⊎ LeavesOwn run.job (desk_before run) (desk_after run)
   pub silent : IsSilent run.status → (desk_after run).page ≡ (desk_before run).page
   pub no_log : HasNoLog run.job → log_told run.after ≡ log_told run.before
+  pub creates : CreatesOnce (log_of run.job) (log_told run.before) (log_told run.after)
+  pub unemptied : StaysUnemptied (log_told run.before) (log_told run.after)
+  pub quiet : IsVerdict run.status → run.after.at Complaint ≡ run.before.at Complaint
   pub complaint : Headline run
 
 -- no call on log or answer failed
@@ -257,11 +385,6 @@ pub record IsCalm (run : Run) : Type 0 where
 pub record AnswersFormula (cnf : Cnf) (log : Option (List ℕ)) (settings : Settings) (trace : Bool) (run : Run) : Type 0 where
   pub status : run.status ≡ verdict_status (outcome_of cnf settings).verdict
   pub texts : WritesBoth log (log_text cnf settings) (answer_of cnf settings trace) (desk_before run).page (desk_after run).page
-
--- the file has this fault, and the complaint says so
-pub record RefusesFile (fault : CnfFault) (run : Run) : Type 0 where
-  pub status : run.status ≡ 2
-  pub complaint : Tells (complaint_of (Unread (reading.NoFormula fault))) (run.before.at Complaint) (run.after.at Complaint)
 
 -- the status and the texts of a file, which may be no formula; want of memory may always come
 abbrev pub AnswersFile : Result Cnf CnfFault → Option (List ℕ) → Settings → Bool → Run → Type 0
