@@ -7,9 +7,9 @@ use std::sync::Wait;
 use std::test::Fail;
 use std::thread::Threads;
 
-const WORDS: [&str; 3] = ["check", "f", "p"];
+pub(super) const WORDS: [&str; 3] = ["check", "f", "p"];
 
-const NO_EMPTY_CLAUSE: &[u8] = b"dp2ll: proof has no empty clause\n";
+pub(super) const NO_EMPTY_CLAUSE: &[u8] = b"dp2ll: proof has no empty clause\n";
 
 /// A proof of the four clauses, with no LF at its end.
 const PROOF: &[u8] = b"5 1 0 1 2 0\n6 0 5 3 4 0";
@@ -25,7 +25,12 @@ fn reads_up_to(text: &[u8], stop: usize, grain: usize) -> usize {
 
 /// What `check` has to leave of the four clauses and a proof: it is verified where there is no complaint, and reading it has to
 /// stop with this byte, or for 0 goes on to its end.
-fn judged<'a>(proof: &[u8], complaint: &'a [u8], stop: usize, grain: usize) -> Wanted<'a> {
+pub(super) fn judged<'a>(
+    proof: &[u8],
+    complaint: &'a [u8],
+    stop: usize,
+    grain: usize,
+) -> Wanted<'a> {
     let is_verified = complaint.is_empty();
     Wanted {
         status: if is_verified { 0 } else { 6 },
@@ -42,7 +47,7 @@ fn judged<'a>(proof: &[u8], complaint: &'a [u8], stop: usize, grain: usize) -> W
 }
 
 /// Runs `check` over the four clauses and this proof.
-fn check_all<R: Abort + Threads + Wait + Sync>(
+pub(super) fn check_all<R: Abort + Threads + Wait + Sync>(
     rt: &R,
     alloc: Global,
     rows: &[(&[u8], &[u8], usize)],
@@ -89,7 +94,6 @@ fn a_proof_that_has_a_flaw(rt: HostRuntime) -> Result<(), Fail> {
         &rt,
         rt.alloc(),
         &[
-            (b"", NO_EMPTY_CLAUSE, 0),
             (b"5 1 0 1 2 0", NO_EMPTY_CLAUSE, 0),
             (b"5 0 1 0\n6 x\n", b"dp2ll: proof line 1: NotUnit at 1\n", 8),
             (
