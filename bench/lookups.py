@@ -9,7 +9,8 @@ of them originals and half lemmas under names with periods up to ten million and
 the first literal of clauses that are picked at random, 2^20 picks over and over: nanoseconds a look-up, the least of three
 rounds. `lits` goes by the name, `near` by the name and the place that the call before put right (where the crate has it);
 `held` asks for lemmas alone. Memory is the peak of a process that adds all clauses less that of one that adds none, a
-clause, less the four bytes of each literal.
+clause, less the four bytes of each literal; it is told by GNU `time`, which starts the process from a small one of its own (a
+process that this script started would be charged for the script's peak), and isn't measured where that isn't on the path.
 """
 import argparse
 import os
@@ -262,11 +263,22 @@ def build(crates):
 
 
 def run(command):
-    """What a run writes, and its peak memory in bytes."""
-    child = subprocess.Popen(command, stdout=subprocess.PIPE, text=True)
-    text = child.stdout.read()
-    _, _, usage = os.wait4(child.pid, 0)
-    return text, usage.ru_maxrss * 1024
+    """What a run writes."""
+    return subprocess.run(command, stdout=subprocess.PIPE, text=True, check=True).stdout
+
+
+def peak(command):
+    """The peak memory of a run in bytes."""
+    told = subprocess.run(['time', '-f', '%M', *command], stdout=subprocess.DEVNULL, stderr=subprocess.PIPE, text=True, check=True).stderr
+    return int(told.split()[-1]) * 1024
+
+
+def memory(program, size, clauses, literals):
+    """A line on the memory that a clause takes beside its literals and its name in the list of this program."""
+    if not shutil.which('time'):
+        return '%d clauses: memory is not measured without GNU time' % size
+    beside = (peak([program, str(size), '0']) - peak([program, '0', '0']) - 4 * literals) / clauses - 12
+    return '%d clauses: %.1f bytes a clause beside its literals' % (size, beside)
 
 
 def main():
@@ -276,15 +288,12 @@ def main():
     args = parser.parse_args()
     folder, program = build(args.crates)
     try:
-        _, least = run([program, '0', '0'])
         for size in SIZES:
-            text, peak = run([program, str(size), '0'])
-            _, names, literals = text.split()[:3]
-            beside = (peak - least - 4 * int(literals)) / int(names) - 12
-            print('%d clauses: %.1f bytes a clause beside its literals' % (size, beside))
-            text, _ = run([program, str(size), str(args.looks)])
+            lines = run([program, str(size), str(args.looks)]).splitlines()
+            _, clauses, literals = lines[0].split()
+            print(memory(program, size, int(clauses), int(literals)))
             best = {}
-            for line in text.splitlines()[1:]:
+            for line in lines[1:]:
                 what, looks, *times = line.split()[:5]
                 best[what] = [min(a, int(t) / int(looks)) for a, t in zip(best.get(what, [float('inf')] * 3), times)]
             for what, (held, lits, near) in best.items():
