@@ -17,3 +17,9 @@ pub mod LogSteps
 pub mod Turning
 pub mod Groups
 pub mod Sent
+pub mod OnBoard
+pub mod Standing
+pub mod Working
+pub mod Serving
+pub mod Handing
+pub mod GivingBack

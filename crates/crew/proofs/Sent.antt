@@ -1,5 +1,6 @@
--- A core may go to another thread.
-use denote.Param.Send.{IsSend, sendable}
+-- A core may go to another thread, alone and as a party of a board.
+use denote.Param.Send.{IsSend, recorded_send, struct_send, sendable}
+use denote.Struct.Declared.{shape}
 use Rattle.std.proofs.Crossing.{crosses}
 use Rattle.clause_pool.specs.contracts.pool.Pool as Pool
 use Rattle.trail_book.specs.contracts.trail.Trail as Trail
@@ -11,7 +12,13 @@ use Rattle.core_rows.specs.contracts.row.Row as Row
 use Rattle.solo_core.specs.contracts.lemma.Lemma as Lemma
 use Rattle.solo_core.specs.contracts.search.Search as Search
 use Rattle.solo_core.specs.contracts.solo.Core as Core
+use Rattle.solo_core.proofs.sheet.Mail.TheSendSync as Mail
+use Rattle.era_board.proofs.pass.Seated.TheSendSync as Seated
 use Rattle.crew.specs.contracts.searcher.Searcher as Searcher
+use Rattle.solo_core.specs.contracts.sheet.Mail as MailRow
+use Rattle.crew.proofs.post.Post.TheSendSync as PostCrossing
+use Rattle.crew.specs.contracts.post.Post as Post
+use Rattle.crew.specs.contracts.party.Party as Party
 
 pub tempo_send : IsSend Tempo.the_row
 tempo_send = search (crosses, sendable) depth 30
@@ -45,3 +52,20 @@ core_send = search (crosses, sendable, search_send) depth 30
 
 pub searcher_send : IsSend Searcher.the_row
 searcher_send = search (crosses, sendable, core_send) depth 30
+
+-- what it posts
+pub mail_send : IsSend MailRow.the_row
+mail_send = Mail.the_send
+
+pub post_send : IsSend Post.the_row
+post_send = PostCrossing.the_send
+
+-- a core with its pass and its mails, field by field
+pub party_send : IsSend Party.the_row
+party_send = recorded_send (Party.the_field).row _ _ (Party.the_type).to_one (struct_send (shape Party.the_type) (
+  search (crosses, sendable, core_send) depth 40,
+  (
+    search (crosses, sendable, Seated.the_field_send, post_send) depth 40,
+    (search (crosses, sendable, mail_send) depth 40, (search (crosses, sendable, mail_send) depth 40, (search sendable, tt))),
+  ),
+))

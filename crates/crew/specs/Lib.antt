@@ -5,4 +5,11 @@ pub mod Trace
 pub mod Outcome
 pub mod Groups
 pub mod Turns
+pub mod Posts
+pub mod Parties
+pub mod Scribing
+pub mod Working
+pub mod Places
+pub mod Passes
+pub mod Orders
 pub mod Laws

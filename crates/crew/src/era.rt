@@ -79,12 +79,12 @@ fn import_all(
     Ok(())
 }
 
-/// Ends an era in which each core has made its stretch: its part of the log is written, its rows are added to the trace, and
-/// either the run is over and has this outcome, or the cores are brought to the next era.
-pub(crate) fn end_era<O: Outputs>(
+/// Adds the sheets of an era to the log and to the trace, and gives the outcome where the run is over; then the sheets are
+/// used up, else they stay.
+pub(crate) fn conclude<O: Outputs>(
     alloc: Global,
-    searchers: &mut [Searcher],
     logged: &mut Logged,
+    sheets: &mut Vec<Sheet>,
     log: bool,
     formula: &Formula,
     settings: &Settings,
@@ -92,14 +92,13 @@ pub(crate) fn end_era<O: Outputs>(
     outputs: &mut O,
 ) -> Result<Option<Outcome>, Stop>
     requires era { IsEra formula.now settings.now past }
-    requires worked { HaveWorked formula.now settings.now past searchers.old }
+    requires sheets { sheets.old.items ≡ sheets_at formula.now settings.now past }
     requires logged { logged.old ≡ logged_before formula.now settings.now log past }
     ensures outcome { IfOk result (λ outcome. outcome ≡ (if is_over (mails_at formula.now settings.now past) then Some (outcome_at formula.now settings.now past) else None)) }
-    ensures next { OnOk result (is_over (mails_at formula.now settings.now past) ≡ false → searchers.new ≡ map begun (members_at formula.now settings.now (past + 1))) }
+    ensures sheets { OnOk result (is_over (mails_at formula.now settings.now past) ≡ false → sheets.new.items ≡ sheets_at formula.now settings.now past) }
     ensures logged { OnOk result (is_over (mails_at formula.now settings.now past) ≡ false → logged.new ≡ logged_before formula.now settings.now log (past + 1)) }
     ensures writes { WritesLog log (era_text formula.now settings.now past) (O.told outputs.old) (O.told outputs.new) (without_answer result) }
 {
-    let sheets = take_sheets(alloc, searchers, formula, settings, past)?;
     log_era(
         alloc,
         logged,
@@ -121,8 +120,47 @@ pub(crate) fn end_era<O: Outputs>(
     )?;
     if over {
         let trace = mem::replace(&mut logged.trace, List::new(alloc));
+        let sheets = mem::replace(sheets, Vec::new(alloc));
         return Ok(Some(outcome_from(past + 1, logged.lemmas, trace, sheets)));
     }
+    Ok(None)
+}
+
+/// Ends an era in which each core has made its stretch: its part of the log is written, its rows are added to the trace, and
+/// either the run is over and has this outcome, or the cores are brought to the next era.
+pub(crate) fn end_era<O: Outputs>(
+    alloc: Global,
+    searchers: &mut [Searcher],
+    logged: &mut Logged,
+    log: bool,
+    formula: &Formula,
+    settings: &Settings,
+    past: u32,
+    outputs: &mut O,
+) -> Result<Option<Outcome>, Stop>
+    requires era { IsEra formula.now settings.now past }
+    requires worked { HaveWorked formula.now settings.now past searchers.old }
+    requires logged { logged.old ≡ logged_before formula.now settings.now log past }
+    ensures outcome { IfOk result (λ outcome. outcome ≡ (if is_over (mails_at formula.now settings.now past) then Some (outcome_at formula.now settings.now past) else None)) }
+    ensures next { OnOk result (is_over (mails_at formula.now settings.now past) ≡ false → searchers.new ≡ map begun (members_at formula.now settings.now (past + 1))) }
+    ensures logged { OnOk result (is_over (mails_at formula.now settings.now past) ≡ false → logged.new ≡ logged_before formula.now settings.now log (past + 1)) }
+    ensures writes { WritesLog log (era_text formula.now settings.now past) (O.told outputs.old) (O.told outputs.new) (without_answer result) }
+{
+    let mut sheets = take_sheets(alloc, searchers, formula, settings, past)?;
+    let ended = conclude(
+        alloc,
+        logged,
+        &mut sheets,
+        log,
+        formula,
+        settings,
+        past,
+        outputs,
+    )?;
+    if let Some(outcome) = ended {
+        return Ok(Some(outcome));
+    }
+    let largest = largest_volume(sheets.as_slice());
     import_all(alloc, searchers, sheets, largest, formula, settings, past)?;
     Ok(None)
 }

@@ -2,10 +2,12 @@
 //!
 //! `specs/` has the run as definitions, for any number of cores: eras, the last of them, the outcome with its
 //! trace, and the log. `run_turns` runs them in turn on the caller's thread, `run_joined` side by side in threads
-//! that are joined at the end of each period. What makes the answer of a run right stands
-//! in laws: functions without parameters, which do nothing and whose contracts state theorems.
+//! that are joined at the end of each period, and `run_crew` in threads that live through the run, on a board of
+//! `make_board`, while the caller's thread writes the log. What makes the answer of a run right stands in laws:
+//! functions without parameters, which do nothing and whose contracts state theorems.
 #![tactic(auto)]
 
+pub use crew_run::run_crew;
 pub use examples::{
     law_square_is_given_up_at_the_limit, law_square_is_refuted, law_two_cores_go_on,
     law_two_cores_in_turn, law_two_cores_share_lemmas,
@@ -18,19 +20,31 @@ pub use laws::{
 };
 pub use log_merge::Stop;
 pub use outcome::{Outcome, Verdict};
+pub use passes::make_board;
+pub use post::{Brief, Post};
 pub use trace::TraceRow;
 pub use turns::run_turns;
 
+mod caller;
+mod crew_run;
 mod dealing;
 mod era;
+mod era_mails;
 mod examples;
 mod joined;
 mod laws;
 mod logged;
+mod order;
 mod outcome;
+mod party;
+mod passes;
+mod places;
+mod post;
+mod scribe;
 mod searcher;
 mod sheets;
 #[cfg(test)]
 mod tests;
 mod trace;
 mod turns;
+mod worker;

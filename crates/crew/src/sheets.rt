@@ -10,7 +10,7 @@ use solo_core::{End, Lemma, Mail, Sheet};
 use std::alloc::Global;
 
 /// Whether a stretch ended with an answer to the formula.
-fn is_answer(end: End) -> bool
+pub(crate) fn is_answer(end: End) -> bool
     ensures { result ≡ is_answer end }
 {
     match end {
@@ -20,7 +20,7 @@ fn is_answer(end: End) -> bool
 }
 
 /// Whether it ended since the core has had all conflicts that it may have in the run.
-fn is_spent(end: End) -> bool
+pub(crate) fn is_spent(end: End) -> bool
     ensures { result ≡ is_spent end }
 {
     match end {

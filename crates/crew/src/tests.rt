@@ -19,6 +19,8 @@ use std::sync::atomic::{AtomicBool, Ordering};
 use std::test::Fail;
 use std::thread::Threads;
 
+mod board;
+
 /// The formula of these clauses, four of them at the most, over the first so many variables.
 fn formula(
     rt: &impl Abort,
@@ -352,6 +354,26 @@ impl Gate for HoldingGate {
     }
 }
 
+/// Compares what a run of the cores in turn and another one leave.
+fn compare_runs(
+    rt: &impl Abort,
+    in_turn: &Outcome,
+    wanted: &MemoryOutputs,
+    other: &Outcome,
+    written: &MemoryOutputs,
+) {
+    assert_eq!(rt; other.verdict, in_turn.verdict);
+    assert_eq!(rt; other.eras, in_turn.eras);
+    assert_eq!(rt; other.winner, in_turn.winner);
+    assert_eq!(rt; other.lemmas, in_turn.lemmas);
+    assert_eq!(rt; other.trace.as_slice(), in_turn.trace.as_slice());
+    assert_eq!(rt; other.model.is_some(), in_turn.model.is_some());
+    if let (Some(one), Some(other)) = (&other.model, &in_turn.model) {
+        assert_eq!(rt; one.values(), other.values());
+    }
+    assert_eq!(rt; written.kept(Port::Log), wanted.kept(Port::Log));
+}
+
 /// Runs the cores side by side and in turn, and compares what they leave.
 fn compare_joined<R: Abort + Threads + Sync, G: Gate>(
     rt: &R,
@@ -378,16 +400,7 @@ fn compare_joined<R: Abort + Threads + Sync, G: Gate>(
         gate,
     );
     let joined = outcome(rt, run)?;
-    assert_eq!(rt; joined.verdict, in_turn.verdict);
-    assert_eq!(rt; joined.eras, in_turn.eras);
-    assert_eq!(rt; joined.winner, in_turn.winner);
-    assert_eq!(rt; joined.lemmas, in_turn.lemmas);
-    assert_eq!(rt; joined.trace.as_slice(), in_turn.trace.as_slice());
-    assert_eq!(rt; joined.model.is_some(), in_turn.model.is_some());
-    if let (Some(one), Some(other)) = (&joined.model, &in_turn.model) {
-        assert_eq!(rt; one.values(), other.values());
-    }
-    assert_eq!(rt; written.kept(Port::Log), wanted.kept(Port::Log));
+    compare_runs(rt, &in_turn, &wanted, &joined, &written);
     Ok(())
 }
 

@@ -1,7 +1,7 @@
-ghost use Rattle.std.specs.Prelude.{◌≡◌, map, All, IfOk, OnOk};
+ghost use Rattle.std.specs.Prelude.{◌≡◌, ◌<◌, map, All, IfOk, OnOk};
 ghost use Rattle.lit_base.specs.Cnf.{IsFormula};
 ghost use Rattle.solo_core.specs.First.{AreInRange};
-ghost use Rattle.crew.specs.Run.{first_quota, members_at};
+ghost use Rattle.crew.specs.Run.{first_member, first_quota, members_at};
 ghost use Rattle.crew.specs.Log.{log_text};
 ghost use Rattle.crew.specs.Outcome.{outcome_of};
 ghost use Rattle.crew.specs.Groups.{AreEach};
@@ -91,6 +91,24 @@ pub(crate) fn run_eras<O: Outputs, F: Fn(&mut Vec<Searcher>, u32) -> Result<(), 
     unreachable!()
 }
 
+/// The core of this number at the start of the run.
+pub(crate) fn make_one(
+    alloc: Global,
+    formula: &Formula,
+    settings: &Settings,
+    number: u32,
+) -> Result<Searcher, NoMemory>
+    requires range { AreInRange settings.now }
+    requires number { number < settings.now.cores }
+    ensures { IfOk result (λ searcher. searcher ≡ begun (first_member formula.now settings.now number)) }
+{
+    Ok(Searcher {
+        number,
+        core: Core::make(alloc, formula, settings, number)?,
+        quota: settings.period,
+    })
+}
+
 /// The cores at the start of the run.
 pub(crate) fn make_all(
     alloc: Global,
@@ -102,11 +120,7 @@ pub(crate) fn make_all(
 {
     let mut searchers = Vec::with_capacity(alloc, settings.cores as usize)?;
     for number in 0..settings.cores {
-        searchers.push(Searcher {
-            number,
-            core: Core::make(alloc, formula, settings, number)?,
-            quota: settings.period,
-        })?;
+        searchers.push(make_one(alloc, formula, settings, number)?)?;
     }
     Ok(searchers)
 }

@@ -18,7 +18,6 @@ use Rattle.dp2ll.specs.declared.ending.Ending.{Ending}
 use Rattle.dp2ll.specs.declared.ending.Ending.TheVariants.{Answered, Judged, Written, Usage, Unread, Unjudged, Unwritten, NoMemory}
 use Rattle.dp2ll.specs.Ending.{verdict_status, read_status, proof_status, write_status, finding_status, status_of}
 use Rattle.dp2ll.specs.Complaint.{Complains}
-use Rattle.dp2ll.specs.Answering.{CutsTexts}
 use Rattle.dp2ll.specs.Serving.{Desk, SolveCause, CheckCause, TextCause, RefuseCause, Serves}
 use Rattle.dp2ll.specs.Headline.{IsVerdict, IsStop, FitsJob}
 

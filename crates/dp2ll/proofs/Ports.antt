@@ -12,14 +12,14 @@ use Rattle.dp2ll.specs.declared.ending.Ending.TheVariants.{Answered, Judged, Wri
 use Rattle.desk_io.specs.Told.{InputsTold, PortTold, raised}
 use Rattle.dp2ll.specs.declared.finding.Finding.{Finding}
 use Rattle.dp2ll.specs.declared.finding.Finding.TheVariants.{Verified, Flawed}
-use Rattle.dp2ll.specs.Ending.{verdict_status, status_of, finding_text, complaint_of}
+use Rattle.dp2ll.specs.Ending.{status_of, finding_text, complaint_of}
 use Rattle.dp2ll.specs.Complaint.{Tells, Complains}
 use Rattle.dp2ll.specs.Outcome.{answer_of}
-use Rattle.dp2ll.specs.Logging.{LogTold, names_with, LogsWhole, LogsFault, LogsPart}
+use Rattle.dp2ll.specs.Logging.{LogTold, names_with, LogsFault, LogsPart}
 use Rattle.dp2ll.specs.Answering.{Page, WritesBoth, WritesFronts, CutsTexts}
 use Rattle.dp2ll.specs.Making.{gen_text, race_text}
 use Rattle.dp2ll.specs.Serving.{Desk, SolveCause, CheckCause, TextCause, Serves}
-use Rattle.dp2ll.specs.Headline.{WritesOwn, SaysOwn, LeavesOwn, HasNoLog, IsSilent, IsVerdict, log_of, CreatesOnce, StaysUnemptied}
+use Rattle.dp2ll.specs.Headline.{WritesOwn, SaysOwn, LeavesOwn, IsSilent, IsVerdict, log_of, CreatesOnce, StaysUnemptied}
 
 -- whole texts are fronts
 pub whole_front : (log : Option (List ℕ)) (log_bytes answer_bytes : List ℕ) (before after : Page) → WritesBoth log log_bytes answer_bytes before after
@@ -172,19 +172,6 @@ pub unlogged_texts : (log_bytes answer_bytes : List ℕ) (before after : Page) �
 unlogged_texts log_bytes answer_bytes before after (inl cut) = cut.part
 unlogged_texts log_bytes answer_bytes before after (inr cut) = cut.logged
 
--- without a named log nothing of logs changes
-pub unlogged : (job : Option Job) (before after : Desk) → HasNoLog job → (after.page ≡ before.page) ⊎ LeavesOwn job before after
-    → after.page.log ≡ before.page.log
-unlogged job before after none (inl same) = ap (λ (page : Page). page.log) same
-unlogged None before after none (inr own) = absurd own
-unlogged (Some (Solve file settings workers None trace)) before after none (inr own) =
-    unlogged_texts (log_text own.cnf settings) (answer_of own.cnf settings trace) before.page after.page own.texts
-unlogged (Some (Solve file settings workers (Some name) trace)) before after none (inr own) = absurd none
-unlogged (Some (Check file proof)) before after none (inr own) =
-    unlogged_texts (finding_text own.finding) (finding_text own.finding) before.page after.page own.texts
-unlogged (Some (Gen kind n seed)) before after none (inr own) = unlogged_texts (gen_text kind n seed) (gen_text kind n seed) before.page after.page own
-unlogged (Some (Race kind n settings)) before after none (inr own) = unlogged_texts (race_text kind n settings) (race_text kind n settings) before.page after.page own
-
 -- texts are written behind at most one creation of a log
 created_once : (log : Option (List ℕ)) (log_bytes answer_bytes : List ℕ) (before after : Page) → WritesFronts log log_bytes answer_bytes before after
     → CreatesOnce log before.log after.log
@@ -210,6 +197,10 @@ creates_once (Some (Solve file settings workers log trace)) before after (inr ow
 creates_once (Some (Check file proof)) before after (inr own) = unlogged_texts _ _ before.page after.page own.texts
 creates_once (Some (Gen kind n seed)) before after (inr own) = unlogged_texts _ _ before.page after.page own
 creates_once (Some (Race kind n settings)) before after (inr own) = unlogged_texts _ _ before.page after.page own
+
+-- without a named log nothing of logs changes
+pub unlogged : (log : Option (List ℕ)) (before after : LogTold) → log ≡ None → CreatesOnce log before after → after ≡ before
+unlogged log before after none once = subst (λ (l : Option (List ℕ)). CreatesOnce l before after) none once
 
 -- names that have one more aren't the same
 never_same : (names : List (List ℕ)) (name : List ℕ) → Some (names ++ name ∷ []) ≡ Some names → ⊥

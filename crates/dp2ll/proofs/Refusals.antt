@@ -1,10 +1,10 @@
 -- Which file and which port a refusal names, and that a told file that is no formula ends the run.
-use Rattle.std.proofs.Common.{◌≡◌, ◌⊎◌, ◌∙◌, ℕ, Bool, List, inl, inr, refl, sym, ap, subst, arith, Option, Some, None, IsSome, Ok, Err}
+use Rattle.std.proofs.Common.{◌≡◌, ◌⊎◌, ◌∙◌, ℕ, Bool, List, inl, inr, refl, sym, ap, subst, arith, Option, Some, None, IsSome, Err}
 use Rattle.lit_base.specs.Cnf.{Cnf}
-use Rattle.desk_io.specs.Told.{InputsTold, SlotTold, PortTold, Rose, raised}
+use Rattle.desk_io.specs.Told.{InputsTold, SlotTold, Rose, raised}
 use Rattle.desk_io.specs.declared.Slot.{Slot}
 use Rattle.desk_io.specs.declared.Slot.TheVariants.{Formula, Proof}
-use Rattle.desk_io.specs.declared.Port.TheVariants.{Answer, Log, Complaint}
+use Rattle.desk_io.specs.declared.Port.TheVariants.{Complaint}
 use Rattle.cnf_text.specs.declared.fault.CnfFault.{CnfFault}
 use Rattle.cnf_text.specs.Reading.{formula_of}
 use Rattle.solo_core.specs.declared.sheet.Settings.{Settings}
@@ -22,10 +22,10 @@ use Rattle.dp2ll.specs.Ending.{read_status, write_status, status_of, complaint_o
 use Rattle.dp2ll.specs.Complaint.{Tells, Complains}
 use Rattle.dp2ll.specs.Reading.{BeginsFormula, BeginsSlot, IsRead, StopsReading}
 use Rattle.dp2ll.specs.Judging.{StopsJudging}
-use Rattle.dp2ll.specs.Logging.{LogTold, LogsWhole, LogsFault}
+use Rattle.dp2ll.specs.Logging.{LogTold, LogsFault}
 use Rattle.dp2ll.specs.Answering.{Page, CutsTexts}
 use Rattle.dp2ll.specs.Serving.{Desk, SolveCause, CheckCause, GivesUp, ServesJob, Serves}
-use Rattle.dp2ll.specs.Headline.{Run, Headline, desk_before, desk_after, EndsBy, IsToldFormula, ReadsTwo, ReadsFile, file_of, log_of, BeginsOnce, NamesFaulty, CannotReadFormula, CannotReadProof, CannotRead, CannotWrite, GrowsByName, ReadsFormula, IsUnwrittenRun, RefusesFile, StopsAtFile, FaultyFileStops}
+use Rattle.dp2ll.specs.Headline.{Run, Headline, desk_before, desk_after, EndsBy, IsToldFormula, ReadsTwo, ReadsFile, file_of, log_of, BeginsOnce, NamesFaulty, CannotReadFormula, CannotReadProof, CannotRead, GrowsByName, ReadsFormula, IsUnwrittenRun, RefusesFile, StopsAtFile, FaultyFileStops}
 use Rattle.dp2ll.proofs.Whole.{KnowsReading, read_told, refused_told}
 
 -- == slots are begun at most once ==

@@ -17,7 +17,7 @@ use Rattle.dp2ll.specs.Ending.{status_of, complaint_of}
 use Rattle.dp2ll.specs.Complaint.{Tells, TellsFront, Complains}
 use Rattle.dp2ll.specs.Reading.{BeginsSlot}
 use Rattle.dp2ll.specs.Serving.{Desk, RefuseCause, CheckCause, Serves}
-use Rattle.dp2ll.specs.Headline.{Run, Headline, desk_before, desk_after, EndsBy, IsFaulty, ReadsFile, WantsMemory, IsRefusal, IsSilent, KeepsPorts, Sentences}
+use Rattle.dp2ll.specs.Headline.{Run, Headline, desk_before, desk_after, EndsBy, IsFaulty, ReadsFile, WantsMemory, IsRefusal, IsSilent, log_of, KeepsPorts, Sentences}
 use Rattle.dp2ll.proofs.Statuses.{at_one, at_two, at_three, at_four}
 use Rattle.dp2ll.proofs.Whole.{KnowsReading}
 use Rattle.dp2ll.proofs.Ports.{served_texts, silent_run, unlogged, creates_once, stays_unemptied, quiet_run}
@@ -166,12 +166,13 @@ silent_own complaint own status before after (inr (five, front)) silent = let ne
 ports_of : (run : Run) → Headline run → KeepsPorts run
 ports_of run h =
     let texts = served_texts run.job (desk_before run) (desk_after run) h.how h.serves in
+    let creates = creates_once run.job (desk_before run) (desk_after run) texts in
     record {
       texts = texts;
       silent = λ silent. silent_run run.job (desk_before run) (desk_after run) h.how
           (silent_own (complaint_of h.how) (status_of h.how) run.status (run.before.at Complaint) (run.after.at Complaint) h.complains silent) h.serves;
-      no_log = λ none. unlogged run.job (desk_before run) (desk_after run) none texts;
-      creates = creates_once run.job (desk_before run) (desk_after run) texts;
+      no_log = λ none. unlogged (log_of run.job) (desk_before run).page.log (desk_after run).page.log none creates;
+      creates = creates;
       unemptied = stays_unemptied run.job (desk_before run) (desk_after run) texts;
       quiet = quiet_run h.how run.status (run.before.at Complaint) (run.after.at Complaint) h.complains;
       complaint = h;

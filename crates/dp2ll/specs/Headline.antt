@@ -344,15 +344,6 @@ LeavesOwn (Some (Check file proof)) before after = SaysOwn file proof before aft
 LeavesOwn (Some (Gen kind n seed)) before after = WritesFronts None (gen_text kind n seed) (gen_text kind n seed) before.page after.page
 LeavesOwn (Some (Race kind n settings)) before after = WritesFronts None (race_text kind n settings) (race_text kind n settings) before.page after.page
 
--- the job names no log
-abbrev pub HasNoLog : Option Job → Type 0
-HasNoLog None = Unit {0}
-HasNoLog (Some (Solve file settings workers None trace)) = Unit {0}
-HasNoLog (Some (Solve file settings workers (Some name) trace)) = ⊥
-HasNoLog (Some (Check file proof)) = Unit {0}
-HasNoLog (Some (Gen kind n seed)) = Unit {0}
-HasNoLog (Some (Race kind n settings)) = Unit {0}
-
 -- the statuses at which neither log nor answer is touched
 abbrev pub IsSilent : ℕ → Type 0
 IsSilent status = (status ≡ 1) ⊎ (status ≡ 2) ⊎ (status ≡ 3)
@@ -370,7 +361,7 @@ StaysUnemptied before after = (names : List (List ℕ)) → before.names ≡ Som
 pub record KeepsPorts (run : Run) : Type 0 where
   pub texts : ((desk_after run).page ≡ (desk_before run).page) ⊎ LeavesOwn run.job (desk_before run) (desk_after run)
   pub silent : IsSilent run.status → (desk_after run).page ≡ (desk_before run).page
-  pub no_log : HasNoLog run.job → log_told run.after ≡ log_told run.before
+  pub no_log : log_of run.job ≡ None → log_told run.after ≡ log_told run.before
   pub creates : CreatesOnce (log_of run.job) (log_told run.before) (log_told run.after)
   pub unemptied : StaysUnemptied (log_told run.before) (log_told run.after)
   pub quiet : IsVerdict run.status → run.after.at Complaint ≡ run.before.at Complaint

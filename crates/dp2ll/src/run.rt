@@ -1,4 +1,4 @@
-ghost use Rattle.std.specs.Prelude.{map, string_bytes};
+ghost use Rattle.std.specs.Prelude.{◌≤◌, map, string_bytes};
 ghost use Rattle.solo_core.specs.First.{AreInRange};
 ghost use Rattle.dp2ll.specs.Cores.{GivesRun, MayRun, RunsCores};
 ghost use Rattle.dp2ll.specs.Answering.{KeepsComplaint};
@@ -14,7 +14,7 @@ use crate::judge::judge_file;
 use crate::making::{race, write_made};
 use crate::read::read_formula;
 use cnf_text::{early_fault_stays, end_ends_input};
-use crew::{Outcome, Stop, Verdict, run_joined, run_turns};
+use crew::{Outcome, Stop, Verdict, make_board, run_crew, run_turns};
 use desk_io::{Gate, Inputs, Outputs};
 use job_words::{Job, WordFault, read_words};
 use lit_base::{Formula, Text, law_checked_proof_refutes};
@@ -26,8 +26,8 @@ use std::thread::Threads;
 
 /// Runs the program on the words after its name, and gives its exit status.
 ///
-/// It does what `run_still` does, and with workers the cores run side by side, on threads of `rt`; `gate` is called before
-/// each stretch of a core.
+/// It does what `run_still` does, and with workers the cores run side by side, on threads of `rt` that live through the run, while
+/// the caller's writes the log; `gate` is called before each stretch of a core. It may wait for ever.
 pub fn run<R: Threads + Wait + Sync, I: Inputs, O: Outputs, G: Gate>(
     rt: &R,
     alloc: Global,
@@ -99,8 +99,8 @@ fn run_with<
     complain(alloc, outputs, &ending)
 }
 
-/// Runs the cores side by side on so many workers, or in turn where there are none.
-fn run_side_by_side<R: Threads + Sync, O: Outputs, G: Gate>(
+/// Runs the cores side by side in so many workers, or in turn where there are none. It may wait for ever.
+fn run_side_by_side<R: Threads + Wait + Sync, O: Outputs, G: Gate>(
     rt: &R,
     alloc: Global,
     formula: &Formula,
@@ -116,8 +116,30 @@ fn run_side_by_side<R: Threads + Sync, O: Outputs, G: Gate>(
     if workers == 0 {
         run_turns(alloc, formula, settings, log, outputs)
     } else {
-        run_joined(rt, alloc, formula, settings, workers, log, outputs, gate)
+        run_on_board(rt, alloc, formula, settings, workers, log, outputs, gate)
     }
+}
+
+/// Runs the cores in so many long-lived workers, on a board of their own. It may wait for ever.
+fn run_on_board<R: Threads + Wait + Sync, O: Outputs, G: Gate>(
+    rt: &R,
+    alloc: Global,
+    formula: &Formula,
+    settings: &Settings,
+    workers: u32,
+    log: bool,
+    outputs: &mut O,
+    gate: &G,
+) -> Result<Outcome, Stop>
+    requires range { AreInRange settings.now }
+    requires workers { 1 ≤ workers }
+    ensures { GivesRun formula.now settings.now log (O.told outputs.old) (O.told outputs.new) result }
+{
+    let (board, passes) = make_board(alloc, formula, settings)?;
+    let (outcome, _) = run_crew(
+        rt, alloc, &board, passes, formula, settings, workers, log, outputs, gate,
+    )?;
+    Ok(outcome)
 }
 
 /// Serves the words, without the complaint.

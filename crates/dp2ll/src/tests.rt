@@ -13,6 +13,7 @@ mod check;
 mod faults;
 mod hostile;
 mod making;
+mod scribe;
 mod workers;
 
 /// How many bytes a call reads or writes at most.

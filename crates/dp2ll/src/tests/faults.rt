@@ -1,7 +1,7 @@
 //! Ports of which one call fails, over runs of one byte a call.
 
 use super::{
-    CLASHING, Failing, LOGGED, NONE, PLAIN, SQUARE, USAGE, Wanted, calls_for, front, run_on,
+    CLASHING, Failing, LOGGED, NONE, PLAIN, SQUARE, USAGE_LEFT, Wanted, calls_for, front, run_on,
     run_over,
 };
 use std::test::Fail;
@@ -126,15 +126,6 @@ struct Row {
     left: Wanted<'static>,
 }
 
-const SILENT: Wanted<'static> = Wanted {
-    status: 1,
-    answer: b"",
-    log: b"",
-    complaint: USAGE,
-    names: 0,
-    reads: 0,
-};
-
 const CHECK: [&str; 3] = ["check", "f", "p"];
 
 /// A run for each status that has a complaint, and for each complaint of its own.
@@ -144,7 +135,7 @@ static ROWS: [Row; 7] = [
         words: &["solve"],
         formula: UNIT,
         failing: NONE,
-        left: SILENT,
+        left: USAGE_LEFT,
     },
     Row {
         name: "no formula",
@@ -155,7 +146,7 @@ static ROWS: [Row; 7] = [
             status: 2,
             complaint: b"dp2ll: formula line 3: TooFewClauses\n",
             reads: 15,
-            ..SILENT
+            ..USAGE_LEFT
         },
     },
     Row {
@@ -167,7 +158,7 @@ static ROWS: [Row; 7] = [
             status: 3,
             complaint: b"dp2ll: cannot read formula\n",
             reads: 1,
-            ..SILENT
+            ..USAGE_LEFT
         },
     },
     Row {
@@ -179,7 +170,7 @@ static ROWS: [Row; 7] = [
             status: 3,
             complaint: b"dp2ll: cannot read proof\n",
             reads: 15,
-            ..SILENT
+            ..USAGE_LEFT
         },
     },
     Row {
@@ -192,7 +183,7 @@ static ROWS: [Row; 7] = [
             complaint: UNLOGGED,
             names: 1,
             reads: 20,
-            ..SILENT
+            ..USAGE_LEFT
         },
     },
     Row {
@@ -205,7 +196,7 @@ static ROWS: [Row; 7] = [
             answer: b"s ",
             complaint: UNWRITTEN,
             reads: 15,
-            ..SILENT
+            ..USAGE_LEFT
         },
     },
     Row {
@@ -218,7 +209,7 @@ static ROWS: [Row; 7] = [
             answer: b"s NOT VERIFIED\n",
             complaint: b"dp2ll: proof line 1: NotFalsified\n",
             reads: 23,
-            ..SILENT
+            ..USAGE_LEFT
         },
     },
 ];

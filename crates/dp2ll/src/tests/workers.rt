@@ -9,14 +9,28 @@ use std::test::Fail;
 const WORKERS: [&str; 4] = ["0", "1", "2", "3"];
 
 /// A run of the four clauses of two variables with a log, and what it leaves.
-struct Told {
-    words: &'static [&'static str],
+pub(super) struct Told {
+    pub(super) words: &'static [&'static str],
     status: u8,
     answer: &'static [u8],
     log: &'static [u8],
 }
 
-static TOLD: [Told; 4] = [
+impl Told {
+    /// What is wanted of the run.
+    pub(super) fn wanted(&self) -> Wanted<'_> {
+        Wanted {
+            status: self.status,
+            answer: self.answer,
+            log: self.log,
+            complaint: b"",
+            names: 1,
+            reads: 2,
+        }
+    }
+}
+
+pub(super) static TOLD: [Told; 4] = [
     Told {
         words: &[
             "solve", "f", "--cores", "2", "--period", "1", "--limit", "10", "--trace", "--log", "g",
@@ -85,14 +99,7 @@ fn run_still_on(alloc: Global, words: &[&str], text: &[u8]) -> Result<Left, Fail
 fn runs_of_few_conflicts(rt: HostRuntime) -> Result<(), Fail> {
     let alloc = rt.alloc();
     for row in &TOLD {
-        let wanted = Wanted {
-            status: row.status,
-            answer: row.answer,
-            log: row.log,
-            complaint: b"",
-            names: 1,
-            reads: 2,
-        };
+        let wanted = row.wanted();
         run_still_on(alloc, row.words, SQUARE)?.is(&rt, &wanted, "still", 4096);
         for workers in WORKERS {
             let mut words = Vec::new(alloc);

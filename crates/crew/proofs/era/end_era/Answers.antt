@@ -1,64 +1,35 @@
-use Rattle.std.proofs.Common.{true, false, ◌∙◌, ap, arith}
+use Rattle.std.proofs.Common.{ap, sym, ◌∙◌}
 use Rattle.std.proofs.lemmas.Bool.{both_ways}
 use Rattle.crew.specs.Era.{is_over, largest_volume}
 use Rattle.crew.specs.Run.{mails_at}
-use Rattle.crew.proofs.LogSize.{volumes_fit}
-use Rattle.crew.proofs.TraceRows.{posts_fit}
-use Rattle.crew.proofs.Turning.{mails_told, over_told, trace_told, logged_next, era_below, ended_with, not_ended}
+use Rattle.crew.proofs.Turning.{mails_told, over_with, on_with, no_outcome, not_ended}
 use Rattle.crew.proofs.era.end_era.Goals as goal
 
-pub overflow_add-past : goal.overflow_add-past
-overflow_add-past g c = omega (arith, era_below c.args.formula.now c.args.settings.now c.args.past c.requires.era.range c.requires.era.has, c.requires.era.range.few_limit)
+-- the run is over
+pub returns-in-Some-clause-outcome : goal.returns-in-Some-clause-outcome
+returns-in-Some-clause-outcome g c = sym c.in-Some.is ∙ c.in_ok-ended.ensures.outcome
 
--- the rows fit
-pub add_rows-requires-clause-fits : goal.add_rows-requires-clause-fits
-add_rows-requires-clause-fits g c =
-    let told = mails_told c.args.formula.now c.args.settings.now c.args.past c.as_slice-3.result.now (c.as_slice-3.ensures.value ∙ c.in_ok-sheets.ensures.sheets) in
-    omega (arith, c.largest_volume-largest.ensures, ap largest_volume told, volumes_fit c.args.formula.now c.args.settings.now c.args.past c.requires.era.range c.requires.era.has)
-
-pub add_rows-requires-clause-few : goal.add_rows-requires-clause-few
-add_rows-requires-clause-few g c =
-    posts_fit c.args.formula.now c.args.settings.now c.args.past c.as_slice-4.result.now c.requires.era.range c.requires.era.has (c.as_slice-4.ensures.value ∙ c.in_ok-sheets.ensures.sheets)
-
--- the run is over, as the sheets tell
-pub returns-then-over-clause-outcome : goal.returns-then-over-clause-outcome
-returns-then-over-clause-outcome g c =
-    let cnf = c.args.formula.now in
-    let settings = c.args.settings.now in
-    let past = c.args.past in
-    let over = over_told cnf settings past c.as_slice-2.result.now c.is_over-over.result true (c.as_slice-2.ensures.value ∙ c.in_ok-sheets.ensures.sheets) c.is_over-over.ensures c.if-over.true in
-    let trace = trace_told cnf settings c.args.log past c.log_era.new.logged c.add_rows.new.trace c.as_slice-4.result.now c.in_ok-log_era.ensures.logged
-    (c.as_slice-4.ensures.value ∙ c.in_ok-sheets.ensures.sheets) c.in_ok-add_rows.ensures in
-    ended_with cnf settings c.args.log past c.log_era.new.logged c.replace-trace.result c.in_ok-sheets.sheets.items c.outcome_from.result over c.in_ok-log_era.ensures.logged
-    (c.replace-trace.ensures.value ∙ trace) c.in_ok-sheets.ensures.sheets c.outcome_from.ensures
-
-pub returns-then-over-clause-next : goal.returns-then-over-clause-next
-returns-then-over-clause-next g c on =
+pub returns-in-Some-clause-next : goal.returns-in-Some-clause-next
+returns-in-Some-clause-next g c on =
     absurd (both_ways (is_over (mails_at c.args.formula.now c.args.settings.now c.args.past)) on
-    (over_told c.args.formula.now c.args.settings.now c.args.past c.as_slice-2.result.now c.is_over-over.result true (c.as_slice-2.ensures.value ∙ c.in_ok-sheets.ensures.sheets) c.is_over-over.ensures c.if-over.true))
-
-pub returns-then-over-clause-logged : goal.returns-then-over-clause-logged
-returns-then-over-clause-logged g c on =
-    absurd (both_ways (is_over (mails_at c.args.formula.now c.args.settings.now c.args.past)) on
-    (over_told c.args.formula.now c.args.settings.now c.args.past c.as_slice-2.result.now c.is_over-over.result true (c.as_slice-2.ensures.value ∙ c.in_ok-sheets.ensures.sheets) c.is_over-over.ensures c.if-over.true))
+    (over_with c.args.formula.now c.args.settings.now c.args.past c.in_ok-ended.ended c.in-Some.outcome c.in_ok-ended.ensures.outcome c.in-Some.is).0)
 
 -- or it goes on
 pub import_all-requires-clause-goes_on : goal.import_all-requires-clause-goes_on
 import_all-requires-clause-goes_on g c =
-    over_told c.args.formula.now c.args.settings.now c.args.past c.as_slice-2.result.now c.is_over-over.result false (c.as_slice-2.ensures.value ∙ c.in_ok-sheets.ensures.sheets) c.is_over-over.ensures c.if-over.false
+    on_with c.args.formula.now c.args.settings.now c.args.past c.in_ok-ended.ended c.in_ok-ended.ensures.outcome (no_outcome c.in_ok-ended.ended c.in_default.not-Some)
+
+pub import_all-requires-clause-sheets : goal.import_all-requires-clause-sheets
+import_all-requires-clause-sheets g c =
+    c.in_ok-ended.ensures.sheets (on_with c.args.formula.now c.args.settings.now c.args.past c.in_ok-ended.ended c.in_ok-ended.ensures.outcome (no_outcome c.in_ok-ended.ended c.in_default.not-Some))
 
 pub import_all-requires-clause-largest : goal.import_all-requires-clause-largest
 import_all-requires-clause-largest g c =
+    let on = on_with c.args.formula.now c.args.settings.now c.args.past c.in_ok-ended.ended c.in_ok-ended.ensures.outcome (no_outcome c.in_ok-ended.ended c.in_default.not-Some) in
     c.largest_volume-largest.ensures
-    ∙ ap largest_volume (mails_told c.args.formula.now c.args.settings.now c.args.past c.as_slice-3.result.now (c.as_slice-3.ensures.value ∙ c.in_ok-sheets.ensures.sheets))
+    ∙ ap largest_volume (mails_told c.args.formula.now c.args.settings.now c.args.past c.as_slice.result.now (c.as_slice.ensures.value ∙ c.in_ok-ended.ensures.sheets on))
 
 pub returns-clause-outcome : goal.returns-clause-outcome
 returns-clause-outcome g c =
     not_ended c.args.formula.now c.args.settings.now c.args.past
-    (over_told c.args.formula.now c.args.settings.now c.args.past c.as_slice-2.result.now c.is_over-over.result false (c.as_slice-2.ensures.value ∙ c.in_ok-sheets.ensures.sheets) c.is_over-over.ensures c.if-over.false)
-
-pub returns-clause-logged : goal.returns-clause-logged
-returns-clause-logged g c on =
-    logged_next c.args.formula.now c.args.settings.now c.args.log c.args.past c.log_era.new.logged c.add_rows.new.trace on c.in_ok-log_era.ensures.logged
-    (trace_told c.args.formula.now c.args.settings.now c.args.log c.args.past c.log_era.new.logged c.add_rows.new.trace c.as_slice-4.result.now c.in_ok-log_era.ensures.logged
-    (c.as_slice-4.ensures.value ∙ c.in_ok-sheets.ensures.sheets) c.in_ok-add_rows.ensures)
+    (on_with c.args.formula.now c.args.settings.now c.args.past c.in_ok-ended.ended c.in_ok-ended.ensures.outcome (no_outcome c.in_ok-ended.ended c.in_default.not-Some))

@@ -13,7 +13,7 @@ loop-number-preserved c =
     let one = begun (first_member cnf settings number) in
     let rest = map begun (members_from cnf settings (number + 1) (settings.cores - (number + 1))) in
     ap (λ searchers. searchers ++ rest)
-    (c.in_ok-push.ensures.items ∙ ap (λ core. let s : Searcher = record { number = number; core = core; quota = settings.period } in c.loop-number.searchers.items ++ s ∷ []) c.in_ok-make.ensures)
+    (c.in_ok-push.ensures.items ∙ ap (λ (s : Searcher). c.loop-number.searchers.items ++ s ∷ []) c.in_ok-make_one.ensures)
     ∙ append_assoc c.loop-number.searchers.items (one ∷ []) rest
     ∙ ap (λ more. c.loop-number.searchers.items ++ map begun (members_from cnf settings number more))
     (let e : suc (settings.cores - (number + 1)) ≡ settings.cores - number = omega arith in e)
