@@ -1,6 +1,6 @@
 -- What a party of a board puts fits its run, and what it takes is of the run.
 use Rattle.std.proofs.Common.{◌≡◌, ◌≢◌, ℕ, ◌+◌, ◌-◌, ◌<◌, true, false, List, [], ◌∷◌, ◌++◌, length, take, refl, ap, sym, ◌∙◌, subst, arith, ◌⊎◌, inl, inr}
-use Rattle.std.specs.Prelude.{Result, Ok, Err, OnOk, is_err, slice_index, slice_set}
+use Rattle.std.specs.Prelude.{Option, Some, None, IfSome, map, Result, Ok, Err, OnOk, is_err, slice_index, slice_set}
 use Rattle.std.proofs.Math.Seq.{take-length}
 use Rattle.std.proofs.lemmas.List.{length-map, get_or-set_same, get_or-set_other}
 use Rattle.std.proofs.lemmas.Bool.{both_ways}
@@ -17,6 +17,7 @@ use Rattle.crew.specs.Era.{Member, mail_at, sheet_left, next_member}
 use Rattle.crew.specs.Run.{HasEra, members_at, mails_at, sheets_at}
 use Rattle.crew.specs.Turns.{IsEra, AtMember, MayWork, HasWorked, begun, worked}
 use Rattle.crew.specs.Posts.{InPeriod}
+use Rattle.crew.specs.Parties.{IsOneMore}
 use Rattle.crew.proofs.Members.{IsCounted, run_counted}
 use Rattle.crew.proofs.RunSound.{length-members}
 use Rattle.crew.proofs.InTurn.{all_at, member_at, mapped_at, taken_more, next_member_at}
@@ -70,28 +71,18 @@ next_begun cnf settings past i searcher within next m at =
 
 -- == mails and sheets, one after the other ==
 
-pub mails_more : (cnf : Cnf) (settings : Settings) (past i : ℕ) (mails : List Mail) (mail : Mail) → i < settings.cores → AtMember cnf settings past i (λ m. mail ≡ mail_at m) →
-    mails ≡ take i (mails_at cnf settings past) → mails ++ mail ∷ [] ≡ take (i + 1) (mails_at cnf settings past)
-mails_more cnf settings past i mails mail within at are =
+pub came_more : {X : Type 0} (f : Member → X) (cnf : Cnf) (settings : Settings) (past i : ℕ) (before after : List X) (came : Option X) → i < settings.cores → IfSome came (λ x. AtMember cnf settings past i (λ m. x ≡ f m)) →
+    before ≡ take i (map f (members_at cnf settings past)) → IsOneMore before came after → after ≡ take (i + 1) (map f (members_at cnf settings past))
+came_more f cnf settings past i before after None within at are more = absurd more
+came_more f cnf settings past i before after (Some x) within at are more =
     let found = member_at cnf settings past i within in
-    ap (λ ms. ms ++ mail ∷ []) are ∙ ap (λ x. take i (mails_at cnf settings past) ++ x ∷ []) (at found.0 found.1)
-    ∙ sym (taken_more (mails_at cnf settings past) i (mail_at found.0) (mapped_at mail_at (members_at cnf settings past) i found.0 found.1))
+    more ∙ ap (λ xs. xs ++ x ∷ []) are ∙ ap (λ y. take i (map f (members_at cnf settings past)) ++ y ∷ []) (at found.0 found.1)
+    ∙ sym (taken_more (map f (members_at cnf settings past)) i (f found.0) (mapped_at f (members_at cnf settings past) i found.0 found.1))
 
-pub sheets_more : (cnf : Cnf) (settings : Settings) (past i : ℕ) (sheets : List Sheet) (sheet : Sheet) → i < settings.cores → AtMember cnf settings past i (λ m. sheet ≡ sheet_left m) →
-    sheets ≡ take i (sheets_at cnf settings past) → sheets ++ sheet ∷ [] ≡ take (i + 1) (sheets_at cnf settings past)
-sheets_more cnf settings past i sheets sheet within at are =
-    let found = member_at cnf settings past i within in
-    ap (λ ss. ss ++ sheet ∷ []) are ∙ ap (λ x. take i (sheets_at cnf settings past) ++ x ∷ []) (at found.0 found.1)
-    ∙ sym (taken_more (sheets_at cnf settings past) i (sheet_left found.0) (mapped_at sheet_left (members_at cnf settings past) i found.0 found.1))
-
--- all are there once those of all cores are
-pub all_mails : (cnf : Cnf) (settings : Settings) (past : ℕ) (mails : List Mail) → mails ≡ take settings.cores (mails_at cnf settings past) → mails ≡ mails_at cnf settings past
-all_mails cnf settings past mails are =
-    are ∙ ap (λ n. take n (mails_at cnf settings past)) (sym (length-members cnf settings past) ∙ sym (length-map (members_at cnf settings past) mail_at)) ∙ take-length (mails_at cnf settings past)
-
-pub all_sheets : (cnf : Cnf) (settings : Settings) (past : ℕ) (sheets : List Sheet) → sheets ≡ take settings.cores (sheets_at cnf settings past) → sheets ≡ sheets_at cnf settings past
-all_sheets cnf settings past sheets are =
-    are ∙ ap (λ n. take n (sheets_at cnf settings past)) (sym (length-members cnf settings past) ∙ sym (length-map (members_at cnf settings past) sheet_left)) ∙ take-length (sheets_at cnf settings past)
+-- all is there once that of all cores is
+pub all_came : {X : Type 0} (f : Member → X) (cnf : Cnf) (settings : Settings) (past : ℕ) (kept : List X) → kept ≡ take settings.cores (map f (members_at cnf settings past)) → kept ≡ map f (members_at cnf settings past)
+all_came f cnf settings past kept are =
+    are ∙ ap (λ n. take n (map f (members_at cnf settings past))) (sym (length-members cnf settings past) ∙ sym (length-map (members_at cnf settings past) f)) ∙ take-length (map f (members_at cnf settings past))
 
 -- what follows from an answer that is no error
 pub went_well : {P : Type 0} (r : Result (Unit {0}) NoMemory) → is_err r ≡ false → OnOk r P → P

@@ -27,10 +27,6 @@ module _ (cnf : Cnf) (settings : Settings) (past : ℕ) (log : Bool) (start mid 
   stands_front stop written =
       let ended : Result Outcome Stop = Err stop in written_front cnf settings past log start mid after era.formula era.range era.has before stop ended refl written
 
-  -- answers of finish_era: Ok, Some outcome: over_with; written: (over, is), writes: stands_whole. Ok, None: on_with (or the match's own fact);
-  -- writes: stands_on. Err, over: stands_front. Err, on: over_told gives is_over ≡ false, `stop` is Some; writes: stands_front.
-  -- answers of keep_sheet, take_sheets: as those of party::keep_mail, party::take_mails, by sheets_more, all_sheets (invariant.4 is `fine`'s).
-
   -- memory was refused before the era was written
   pub stands_refused : WritesLog log (log_text cnf settings) start mid (Err WantOfMemory)
   stands_refused = log_refused log (text_before cnf settings past) (log_text cnf settings) start mid (text_is_front cnf settings past era.formula era.range era.has) before

@@ -1,5 +1,5 @@
 -- What holds of a core that is a party of a board, between the halves of its eras.
-use Rattle.std.specs.Prelude.{ℕ, ◌≡◌, ◌+◌, ◌<◌, true, false, IfSome, All}
+use Rattle.std.specs.Prelude.{ℕ, ◌≡◌, ◌+◌, ◌<◌, true, false, IfSome, All, List, [], ◌∷◌, ◌++◌, Option, Some, None}
 use Rattle.lit_base.specs.Cnf.{Cnf}
 use Rattle.era_board.specs.declared.board.Board.{Board}
 use Rattle.era_board.specs.declared.pass.Seated.{Seated}
@@ -30,6 +30,11 @@ pub record IsPassIn (board : Posts) (cnf : Cnf) (settings : Settings) (pass : Pa
   pub parties : board.parties ≡ settings.cores + 1
   pub formula : (account pass).occasion.formula.value ≡ cnf
   pub range : (account pass).occasion.settings ≡ settings
+
+-- a list with what came behind it, where something came
+abbrev pub IsOneMore : {X : Type 0} → List X → Option X → List X → Type 0
+IsOneMore before None after = ⊥
+IsOneMore before (Some x) after = after ≡ before ++ x ∷ []
 
 -- the number of a party
 abbrev pub number_of : Party → ℕ

@@ -32,6 +32,7 @@ mod era;
 mod era_mails;
 mod examples;
 mod joined;
+mod kept;
 mod laws;
 mod logged;
 mod order;

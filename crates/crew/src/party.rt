@@ -15,6 +15,7 @@ ghost use Rattle.crew.specs.Turns.{IsEra, AtMember, at_rest, begun, worked};
 ghost use Rattle.crew.specs.Parties.{IsPassIn, IsLeft, PartyAt, PartySent, Decides, Receives};
 
 use crate::era_mails::{is_over, largest_volume};
+use crate::kept::keep;
 use crate::order::is_go;
 use crate::post::Post;
 use crate::searcher::{Searcher, import_one, sheet_one, stretch_one};
@@ -343,30 +344,6 @@ fn take_mail(
     }
 }
 
-/// Adds a mail to those of the cores before it, and says whether all are there.
-fn keep_mail(
-    mails: &mut Vec<Mail>,
-    mail: Option<Mail>,
-    fine: bool,
-    _from: u32,
-    _formula: &Formula,
-    _settings: &Settings,
-    _past: u32,
-) -> bool
-    requires within { _from < _settings.now.cores }
-    requires mail { IfSome mail (λ mail. AtMember _formula.now _settings.now _past _from (λ m. mail ≡ mail_at m)) }
-    requires before { fine ≡ true → mails.old.items ≡ take _from (mails_at _formula.now _settings.now _past) }
-    ensures { result ≡ true → mails.new.items ≡ take (_from + 1) (mails_at _formula.now _settings.now _past) }
-{
-    match mail {
-        Some(mail) => match mails.push(mail) {
-            Ok(()) => fine,
-            Err(_) => false,
-        },
-        None => false,
-    }
-}
-
 /// Takes the mails of an era, and says whether all are there.
 fn take_mails(
     board: &Board<Post>,
@@ -391,7 +368,7 @@ fn take_mails(
     let mut fine = true;
     for from in 0..settings.cores {
         let mail = take_mail(board, pass, own, from, formula, settings, past);
-        fine = keep_mail(mails, mail, fine, from, formula, settings, past);
+        fine = keep(mails, mail, fine);
     }
     fine
 }

@@ -14,6 +14,7 @@ ghost use Rattle.crew.specs.Parties.{IsPassIn};
 ghost use Rattle.crew.specs.Scribing.{ScribeAt, ScribeSent, ScribeReceives, Concludes, LogStands, LogLeft};
 
 use crate::era::conclude;
+use crate::kept::keep;
 use crate::logged::Logged;
 use crate::outcome::Outcome;
 use crate::post::Post;
@@ -141,30 +142,6 @@ fn take_sheet(
     }
 }
 
-/// Adds a sheet to those of the cores before it, and says whether all are there.
-fn keep_sheet(
-    sheets: &mut Vec<Sheet>,
-    sheet: Option<Sheet>,
-    fine: bool,
-    _from: u32,
-    _formula: &Formula,
-    _settings: &Settings,
-    _past: u32,
-) -> bool
-    requires within { _from < _settings.now.cores }
-    requires sheet { IfSome sheet (λ sheet. AtMember _formula.now _settings.now _past _from (λ m. sheet ≡ sheet_left m)) }
-    requires before { fine ≡ true → sheets.old.items ≡ take _from (sheets_at _formula.now _settings.now _past) }
-    ensures { result ≡ true → sheets.new.items ≡ take (_from + 1) (sheets_at _formula.now _settings.now _past) }
-{
-    match sheet {
-        Some(sheet) => match sheets.push(sheet) {
-            Ok(()) => fine,
-            Err(_) => false,
-        },
-        None => false,
-    }
-}
-
 /// Takes the sheets of an era, and says whether all are there.
 fn take_sheets(
     board: &Board<Post>,
@@ -188,7 +165,7 @@ fn take_sheets(
     let mut fine = true;
     for from in 0..settings.cores {
         let sheet = take_sheet(board, pass, from, formula, settings, past);
-        fine = keep_sheet(sheets, sheet, fine, from, formula, settings, past);
+        fine = keep(sheets, sheet, fine);
     }
     fine
 }
