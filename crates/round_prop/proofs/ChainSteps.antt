@@ -154,43 +154,6 @@ lists_pushed heads nexts lists p n are inside low absent =
         let same : times_in m (n ∷ list_at lists p) ≡ 0 + times_in m (list_at lists p) = ap (λ b. (if b then 1 else 0) + times_in m (list_at lists p)) (ne_eqb n m other) in
         omega (arith, sums, same, once)
 
--- list 0 takes the place of an empty one
-pub lists_moved : (heads nexts : List ℕ) (lists : List (List ℕ)) (p : ℕ) → AreLists heads nexts lists → p < length heads → 0 < length heads → p ≢ 0 → list_at lists p ≡ [] →
-    AreLists (set (set heads p (get_or heads 0 0)) 0 no_node) nexts (set (set lists p (list_at lists 0)) 0 [])
-lists_moved heads nexts lists p are inside begun apart empty =
-    let moved = set heads p (get_or heads 0 0) in
-    let lists-moved = set lists p (list_at lists 0) in
-    let within : p < length lists = omega (arith, are.long, inside) in
-    let first : 0 < length lists-moved = omega (arith, are.long, begun, length-set lists p (list_at lists 0)) in
-    let zero_same : list_at lists-moved 0 ≡ list_at lists 0 = get_or-set_other lists p 0 (list_at lists 0) [] (λ z. apart (sym z)) in
-    record {
-      long = omega (arith, length-set moved 0 no_node, length-set heads p (get_or heads 0 0), length-set lists-moved 0 [], length-set lists p (list_at lists 0), are.long);
-      few = are.few;
-      chains = λ q small. at_list q (omega (arith, small, length-set moved 0 no_node, length-set heads p (get_or heads 0 0)))
-          (head-set moved 0 q no_node (omega (arith, begun, length-set heads p (get_or heads 0 0)))) (list_at-set lists-moved 0 q [] first)
-          (head-set heads p q (get_or heads 0 0) inside) (list_at-set lists p q (list_at lists 0) within);
-      once = λ m. same m (times-set m lists p (list_at lists 0) within) (times-set m lists-moved 0 [] first) (ap (λ nodes. times_in m nodes) empty) (ap (λ nodes. times_in m nodes) zero_same) (are.once m);
-    }
-  where
-    at_list : (q : ℕ) → q < length heads → ((q ≡ 0) × (get_or (set (set heads p (get_or heads 0 0)) 0 no_node) q 0 ≡ no_node)) ⊎ ((q ≢ 0) × (get_or (set (set heads p (get_or heads 0 0)) 0 no_node) q 0 ≡ get_or (set heads p (get_or heads 0 0)) q 0)) →
-        ((q ≡ 0) × (list_at (set (set lists p (list_at lists 0)) 0 []) q ≡ [])) ⊎ ((q ≢ 0) × (list_at (set (set lists p (list_at lists 0)) 0 []) q ≡ list_at (set lists p (list_at lists 0)) q)) →
-        ((q ≡ p) × (get_or (set heads p (get_or heads 0 0)) q 0 ≡ get_or heads 0 0)) ⊎ ((q ≢ p) × (get_or (set heads p (get_or heads 0 0)) q 0 ≡ get_or heads q 0)) →
-        ((q ≡ p) × (list_at (set lists p (list_at lists 0)) q ≡ list_at lists 0)) ⊎ ((q ≢ p) × (list_at (set lists p (list_at lists 0)) q ≡ list_at lists q)) →
-        IsChain nexts (get_or (set (set heads p (get_or heads 0 0)) 0 no_node) q 0) (list_at (set (set lists p (list_at lists 0)) 0 []) q)
-    at_list q small (inl h) (inl l) h2 l2 = subst (λ nodes. IsChain nexts (get_or (set (set heads p (get_or heads 0 0)) 0 no_node) q 0) nodes) (sym l.1) h.1
-    at_list q small (inl h) (inr l) h2 l2 = absurd (l.0 h.0)
-    at_list q small (inr h) (inl l) h2 l2 = absurd (h.0 l.0)
-    at_list q small (inr h) (inr l) (inl h2) (inl l2) = subst (λ at. IsChain nexts at (list_at (set (set lists p (list_at lists 0)) 0 []) q)) (sym (h.1 ∙ h2.1)) (subst (λ nodes. IsChain nexts (get_or heads 0 0) nodes) (sym (l.1 ∙ l2.1)) (are.chains 0 begun))
-    at_list q small (inr h) (inr l) (inl h2) (inr l2) = absurd (l2.0 h2.0)
-    at_list q small (inr h) (inr l) (inr h2) (inl l2) = absurd (h2.0 l2.0)
-    at_list q small (inr h) (inr l) (inr h2) (inr l2) = subst (λ at. IsChain nexts at (list_at (set (set lists p (list_at lists 0)) 0 []) q)) (sym (h.1 ∙ h2.1)) (subst (λ nodes. IsChain nexts (get_or heads q 0) nodes) (sym (l.1 ∙ l2.1)) (are.chains q small))
-
-    same : (m : ℕ) → times m (set lists p (list_at lists 0)) + times_in m (list_at lists p) ≡ times m lists + times_in m (list_at lists 0) →
-        times m (set (set lists p (list_at lists 0)) 0 []) + times_in m (list_at (set lists p (list_at lists 0)) 0) ≡ times m (set lists p (list_at lists 0)) + times_in m [] →
-        times_in m (list_at lists p) ≡ times_in m [] → times_in m (list_at (set lists p (list_at lists 0)) 0) ≡ times_in m (list_at lists 0) → times m lists ≤ 1 →
-        times m (set (set lists p (list_at lists 0)) 0 []) ≤ 1
-    same m one two none zero_same once = omega (arith, one, two, none, zero_same, once)
-
 -- what was read by an index, whatever stands for the rest
 pub at_zero : (xs : List ℕ) (i x : ℕ) → i < length xs → x ≡ get_or xs i x → get_or xs i 0 ≡ x
 at_zero xs i x inside is = sym (get_or_default_zero xs i x inside) ∙ sym is
@@ -198,22 +161,7 @@ at_zero xs i x inside is = sym (get_or_default_zero xs i x inside) ∙ sym is
 pub next_read : (nodes : List Node) (n : ℕ) (node : Node) → n < length nodes → node ≡ get_or nodes n node → get_or (nexts_of nodes) n 0 ≡ node.next
 next_read nodes n node inside is = get_or-map (λ (m : Node). m.next) nodes n node 0 inside ∙ ap (λ (m : Node). m.next) (sym is)
 
--- the same steps, of what was read
-pub popped_read : (heads : List ℕ) (nodes : List Node) (lists : List (List ℕ)) (p n : ℕ) (node : Node) → p < length heads → n ≡ get_or heads p n → n < length nodes →
-    node ≡ get_or nodes n node → AreLists heads (nexts_of nodes) lists → (later : List ℕ) × ((list_at lists p ≡ n ∷ later) × AreLists (set heads p node.next) (nexts_of nodes) (set lists p later))
-popped_read heads nodes lists p n node inside first low is are =
-    let nexts = nexts_of nodes in
-    let chain = subst (λ at. IsChain nexts at (list_at lists p)) (at_zero heads p n inside first) (are.chains p inside) in
-    let begins = list_begins nexts n (list_at lists p) are.few (omega (arith, low, length-map nodes (λ (m : Node). m.next))) chain in
-    let step = lists_popped heads nexts lists p n begins.0 are inside begins.1.0 in
-    (begins.0, (begins.1.0, subst (λ x. AreLists (set heads p x) nexts (set lists p begins.0)) (next_read nodes n node low is) step))
-
-pub empty_read : (heads : List ℕ) (nodes : List Node) (lists : List (List ℕ)) (p n : ℕ) → p < length heads → n ≡ get_or heads p n → length nodes ≤ n →
-    AreLists heads (nexts_of nodes) lists → list_at lists p ≡ []
-empty_read heads nodes lists p n inside first past are =
-    let chain = subst (λ at. IsChain (nexts_of nodes) at (list_at lists p)) (at_zero heads p n inside first) (are.chains p inside) in
-    list_empty (nexts_of nodes) n (list_at lists p) (omega (arith, past, length-map nodes (λ (m : Node). m.next))) chain
-
+-- the same step, of what was read
 pub pushed_read : (heads : List ℕ) (nodes : List Node) (lists : List (List ℕ)) (p n next : ℕ) (l : Literal) → p < length heads → n < length nodes → next ≡ get_or heads p next →
     AreLists heads (nexts_of nodes) lists → times n lists ≡ 0 →
     AreLists (set heads p n) (nexts_of (set nodes n (record { next = next; lit = l }))) (set lists p (n ∷ list_at lists p))
@@ -222,9 +170,3 @@ pushed_read heads nodes lists p n next l inside low is are absent =
     let step = lists_pushed heads (nexts_of nodes) lists p n are inside (omega (arith, low, length-map nodes (λ (m : Node). m.next))) absent in
     subst (λ nexts. AreLists (set heads p n) nexts (set lists p (n ∷ list_at lists p)))
     (ap (λ x. set (nexts_of nodes) n x) (at_zero heads p next inside is) ∙ sym (map-set (λ (m : Node). m.next) nodes n node)) step
-
-pub moved_read : (heads nexts : List ℕ) (lists : List (List ℕ)) (p first : ℕ) → p < length heads → 0 < length heads → first ≡ get_or heads 0 first → p ≢ 0 → list_at lists p ≡ [] →
-    AreLists heads nexts lists → AreLists (set (set heads p first) 0 no_node) nexts (set (set lists p (list_at lists 0)) 0 [])
-moved_read heads nexts lists p first inside begun is apart empty are =
-    subst (λ x. AreLists (set (set heads p x) 0 no_node) nexts (set (set lists p (list_at lists 0)) 0 [])) (at_zero heads 0 first begun is)
-    (lists_moved heads nexts lists p are inside begun apart empty)

@@ -1,6 +1,6 @@
 -- The row of a clause that is linked for the first time.
 use Rattle.std.proofs.Common.{◌≡◌, ◌⊎◌, ℕ, ◌+◌, ◌<◌, ◌≤◌, Bool, true, false, ◌||◌, List, [], ◌∷◌, ◌++◌, length, get_or, inl, inr, ap, sym, subst, arith, All}
-use Rattle.std.specs.Prelude.{Some, None, find, not}
+use Rattle.std.specs.Prelude.{Some, None}
 use Rattle.std.specs.List.{list_any, IsDistinct}
 use Rattle.std.proofs.lemmas.Bool.{cases_Bool}
 use Rattle.std.proofs.lemmas.List.{length-append}
@@ -18,12 +18,11 @@ use Rattle.lit_base.specs.declared.name.Name.{Name}
 use Rattle.lit_base.proofs.DistinctLits.{same-true}
 use Rattle.lit_base.proofs.Known.{same_itself}
 use Rattle.round_prop.specs.declared.note.Note.{Note}
-use Rattle.round_prop.specs.Linked.{IsBeside, IsLatest}
+use Rattle.round_prop.specs.Linked.{IsBeside, IsLatest, IsOther}
 use Rattle.round_prop.specs.Noting.{IsNoteOf, IsNoted, clear_count, load_of}
 use Rattle.round_prop.specs.Readied.{IsRow}
 use Rattle.round_prop.proofs.FirstLinks.{first_pair, first_linked, first_noted, second_noted}
 use Rattle.round_prop.proofs.RowSteps.{clear-append}
-use Rattle.round_prop.proofs.VisitSteps.{link_found, link_none}
 
 -- literals of the clause by their places
 pub one_at : (lits : List Literal) (i : ℕ) (l : Literal) → i < length lits → l ≡ get_or lits i l → IsOneOf lits l
@@ -48,11 +47,11 @@ all_one P (m ∷ later) l all held = by_test (cases_Bool (same m l)) (all_one P 
     by_test (inr apart) rest = rest (skip (same m l) (list_any (λ k. same k l) later) apart held)
 
 -- a literal beside another
-pub beside_found : (trail : List Entry) (lits : List Literal) (other l : Literal) → Some l ≡ find (λ m. not (is_false trail m || same m other)) lits → IsBeside trail lits other l
-beside_found trail lits other l is = let one = link_found trail lits other l is in record { held = one.0; apart = one.1; choice = inl one.2 }
+pub beside_found : (trail : List Entry) (lits : List Literal) (other l : Literal) → IsOther trail lits other (Some l) → IsBeside trail lits other l
+beside_found trail lits other l is = record { held = is.0; apart = is.1; choice = inl is.2 }
 
-pub beside_latest : (trail : List Entry) (lits : List Literal) (other l : Literal) → None ≡ find (λ m. not (is_false trail m || same m other)) lits → IsLatest trail lits other l → IsBeside trail lits other l
-beside_latest trail lits other l none latest = record { held = latest.held; apart = latest.apart; choice = inr (link_none trail lits other none, latest) }
+pub beside_latest : (trail : List Entry) (lits : List Literal) (other l : Literal) → IsOther trail lits other None → IsLatest trail lits other l → IsBeside trail lits other l
+beside_latest trail lits other l none latest = record { held = latest.held; apart = latest.apart; choice = inr (none, latest) }
 
 -- the row is right, noted or not
 module _ (clauses : List NamedClause) (trail done : List Entry) (notes : List Note) (name : Name) (lits : List Literal) (x a b : Literal) (distinct : HasDistinctVariables trail) (held : IsOneOf lits x) (one : IsBeside trail lits x a) (two : IsBeside trail lits a b)

@@ -40,3 +40,5 @@ pub mod Leaving
 pub mod Indexing
 pub mod Parts
 pub mod Playing
+pub mod Placed
+pub mod InPlace

@@ -22,14 +22,13 @@ use Rattle.lit_base.proofs.Known.{same_itself}
 use Rattle.lit_base.proofs.NameOrder.{rising_found}
 use Rattle.trail_book.specs.TrailState.{TrailState, decided, jumped}
 use Rattle.round_prop.specs.Attached.{RoundsState, IsAttached, IsAttachedTo, IsSettled}
-use Rattle.round_prop.specs.Linked.{IsPart}
+use Rattle.round_prop.specs.Linked.{IsPart, IsOther}
 use Rattle.round_prop.specs.Pairs.{pairs_of}
 use Rattle.round_prop.specs.Propagation.{MayPropagate, HasPropagated}
 use Rattle.round_prop.specs.declared.found.Found.{Found}
 use Rattle.round_prop.proofs.LinkSteps.{true_quiet, guarded_quiet}
 use Rattle.round_prop.proofs.OlderParts.{part_itself, part_of_part, nested}
 use Rattle.round_prop.proofs.Seen.{seen_all}
-use Rattle.round_prop.proofs.VisitSteps.{link_found}
 
 -- a decision is one entry more that wasn't seen
 pub may-decided : (r : RoundsState) (held : List HeldClause) (trail : TrailState) (l : Literal) → MayPropagate r held trail → MayPropagate r held (decided l trail)
@@ -121,17 +120,16 @@ found_any p q (y ∷ later) x is good = by_test (cases_Bool (p y)) (λ rest. fou
 pub quiet_true : (trail : List Entry) (lits : List Literal) (l : Literal) → Some l ≡ find (λ m. not (is_false trail m)) lits → is_true trail l ≡ true → IsQuiet trail lits
 quiet_true trail lits l is holds = true_quiet trail lits (found_any (λ m. not (is_false trail m)) (λ m. is_true trail m) lits l (sym is) holds)
 
-quiet_two : (trail : List Entry) (lits : List Literal) (l m : Literal) → Some l ≡ find (λ k. not (is_false trail k)) lits → Some m ≡ find (λ k. not (is_false trail k || same k l)) lits → IsQuiet trail lits
+quiet_two : (trail : List Entry) (lits : List Literal) (l m : Literal) → Some l ≡ find (λ k. not (is_false trail k)) lits → IsOther trail lits l (Some m) → IsQuiet trail lits
 quiet_two trail lits l m is other =
-    let two = link_found trail lits l m other in
     let one = found_any (λ k. not (is_false trail k)) (λ k. same k l) lits l (sym is) (same_itself l) in
-    guarded_quiet trail lits m l (record { first = two.0; second = one; apart = two.1 }) (inr (inr (two.2, alive (is_false trail l) (found_passes (λ k. not (is_false trail k)) lits l (sym is)))))
+    guarded_quiet trail lits m l (record { first = other.0; second = one; apart = other.1 }) (inr (inr (other.2, alive (is_false trail l) (found_passes (λ k. not (is_false trail k)) lits l (sym is)))))
   where
     alive : (b : Bool) → not b ≡ true → b ≡ false
     alive true is = cc
     alive false is = refl
 
-pub quiet_other : (trail : List Entry) (lits : List Literal) (l : Literal) (o : Option Literal) → Some l ≡ find (λ k. not (is_false trail k)) lits → o ≡ find (λ k. not (is_false trail k || same k l)) lits →
+pub quiet_other : (trail : List Entry) (lits : List Literal) (l : Literal) (o : Option Literal) → Some l ≡ find (λ k. not (is_false trail k)) lits → IsOther trail lits l o →
     is_some o ≡ true → IsQuiet trail lits
 quiet_other trail lits l None is other some = cc
 quiet_other trail lits l (Some m) is other some = quiet_two trail lits l m is other

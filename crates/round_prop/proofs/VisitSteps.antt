@@ -1,21 +1,17 @@
 -- A row after its clause was looked at.
-use Rattle.std.proofs.Common.{◌≡◌, ◌⊎◌, ℕ, ◌<◌, Bool, true, false, cond, not, ◌&&◌, ◌||◌, List, [], ◌∷◌, length, get_or, set, refl, inl, inr, ap, sym, ◌∙◌, subst}
-use Rattle.std.specs.Prelude.{Option, Some, None, option_map, find, nat_lt, slice_get}
-use Rattle.std.specs.List.{list_any}
-use Rattle.std.proofs.lemmas.Bool.{cases_Bool}
+use Rattle.std.proofs.Common.{◌≡◌, ◌⊎◌, ℕ, ◌<◌, Bool, true, false, ◌&&◌, List, length, get_or, set, refl, inl, inr, ap, sym, ◌∙◌, subst}
+use Rattle.std.specs.Prelude.{Option, Some, None, option_map, nat_lt, slice_get}
 use Rattle.std.proofs.lemmas.List.{map-set, get_or-map, set-get_or}
 use Rattle.std.proofs.lemmas.Option.{same_Some, slice_get-map, slice_get_read, slice_get-get_or}
-use Rattle.lit_base.specs.Literal.{Literal, same}
-use Rattle.lit_base.specs.Trail.{is_false, is_true}
+use Rattle.lit_base.specs.Literal.{Literal}
+use Rattle.lit_base.specs.Trail.{is_true}
 use Rattle.lit_base.specs.Named.{lits_at}
 use Rattle.lit_base.specs.Rounds.{NamedClause}
-use Rattle.lit_base.specs.Quiet.{IsOneOf}
 use Rattle.lit_base.specs.declared.trail.Entry.{Entry}
 use Rattle.lit_base.specs.declared.name.Name.{Name}
-use Rattle.lit_base.proofs.Known.{same_itself, all_from_none}
 use Rattle.round_prop.specs.declared.note.Note.{Note}
 use Rattle.round_prop.specs.declared.row.Row.{Row}
-use Rattle.round_prop.specs.Linked.{IsPair, IsGuarded, IsLinked, IsPending, IsStep, IsLatest, AreAllBut, place_in}
+use Rattle.round_prop.specs.Linked.{IsPair, IsGuarded, IsLinked, IsPending, IsStep, IsLatest, IsOther, place_in}
 use Rattle.round_prop.specs.Noting.{IsNoted, IsNoteOf, IsAdded, HasMoreNotes}
 use Rattle.round_prop.specs.declared.noted.Noted.{Noted}
 use Rattle.round_prop.proofs.NoteSteps.{added_kept, added_sound, added_flagged, added_load}
@@ -23,50 +19,6 @@ use Rattle.std.proofs.Common.{vec_capacity}
 use Rattle.round_prop.specs.Readied.{IsRow, row_names}
 use Rattle.round_prop.specs.Walking.{HasPair}
 use Rattle.round_prop.proofs.LinkSteps.{moved, blocked, stuck_late, stuck_own}
-
--- what a search finds passes, and is an element
-found_passes : {X : Type 0} (p : X → Bool) (xs : List X) (x : X) → find p xs ≡ Some x → p x ≡ true
-found_passes p [] x is = absurd (none is)
-  where
-    none : {X : Type 0} {x : X} → None ≡ Some x → ⊥
-    none same_option = cc
-found_passes p (y ∷ later) x is = by_test (cases_Bool (p y)) (found_passes p later x)
-  where
-    by_test : (p y ≡ true) ⊎ (p y ≡ false) → (find p later ≡ Some x → p x ≡ true) → p x ≡ true
-    by_test (inl passes) rest = subst (λ z. p z ≡ true) (same_Some y x (sym (ap (λ b. cond b (Some y) (find p later)) passes) ∙ is)) passes
-    by_test (inr fails) rest = rest (sym (ap (λ b. cond b (Some y) (find p later)) fails) ∙ is)
-
-found_among : (p : Literal → Bool) (xs : List Literal) (x : Literal) → find p xs ≡ Some x → list_any (λ m. same m x) xs ≡ true
-found_among p [] x is = absurd (none is)
-  where
-    none : {X : Type 0} {x : X} → None ≡ Some x → ⊥
-    none same_option = cc
-found_among p (y ∷ later) x is = by_test (cases_Bool (p y)) (found_among p later x)
-  where
-    right : (b : Bool) → (b || true) ≡ true
-    right true = refl
-    right false = refl
-
-    by_test : (p y ≡ true) ⊎ (p y ≡ false) → (find p later ≡ Some x → list_any (λ m. same m x) later ≡ true) → list_any (λ m. same m x) (y ∷ later) ≡ true
-    by_test (inl passes) rest =
-        let one : y ≡ x = same_Some y x (sym (ap (λ b. cond b (Some y) (find p later)) passes) ∙ is) in
-        ap (λ b. b || list_any (λ m. same m x) later) (subst (λ z. same y z ≡ true) one (same_itself y))
-    by_test (inr fails) rest = ap (λ b. same y x || b) (rest (sym (ap (λ b. cond b (Some y) (find p later)) fails) ∙ is)) ∙ right (same y x)
-
-neither : (a b : Bool) → not (a || b) ≡ true → (a ≡ false) × (b ≡ false)
-neither true b is = cc
-neither false true is = cc
-neither false false is = (refl, refl)
-
--- the literal that a clause is linked by instead
-pub link_found : (trail : List Entry) (lits : List Literal) (other m : Literal) → Some m ≡ find (λ k. not (is_false trail k || same k other)) lits →
-    IsOneOf lits m × (same m other ≡ false) × (is_false trail m ≡ false)
-link_found trail lits other m is =
-    let parts = neither (is_false trail m) (same m other) (found_passes (λ k. not (is_false trail k || same k other)) lits m (sym is)) in
-    (found_among (λ k. not (is_false trail k || same k other)) lits m (sym is), parts.1, parts.0)
-
-pub link_none : (trail : List Entry) (lits : List Literal) (other : Literal) → None ≡ find (λ k. not (is_false trail k || same k other)) lits → AreAllBut trail other lits
-link_none trail lits other is = all_from_none (λ k. is_false trail k || same k other) lits (sym is)
 
 -- the row of a name whose literals were read
 row_parts : (clauses : List NamedClause) (trail done : List Entry) (notes : List Note) (name : Name) (a b : Literal) (lits : List Literal) → IsRow clauses trail done notes name a b → lits_at clauses name ≡ Some lits →
@@ -96,14 +48,13 @@ module _ (clauses : List NamedClause) (trail done next : List Entry) (notes : Li
     parts = row_parts clauses trail done notes name own other lits row found
 
     -- there is another literal that isn't false
-    pub visit_moved : (m : Literal) → Some m ≡ find (λ k. not (is_false trail k || same k other)) lits → IsRow clauses trail next notes name m other
+    pub visit_moved : (m : Literal) → IsOther trail lits other (Some m) → IsRow clauses trail next notes name m other
     visit_moved m is =
-        let one = link_found trail lits other m is in
         record {
           lits = lits;
           found = found;
-          pair = record { first = one.0; second = parts.0.second; apart = one.1 };
-          met = by_case (moved trail done next own step lits other parts.0 (unnoted trail done notes name own other lits parts.1) m one.0 one.1 one.2);
+          pair = record { first = is.0; second = parts.0.second; apart = is.1 };
+          met = by_case (moved trail done next own step lits other parts.0 (unnoted trail done notes name own other lits parts.1) m is.0 is.1 is.2);
         }
       where
         by_case : (IsLinked trail lits m other × IsGuarded trail m other) ⊎ IsPending trail next lits m other → (IsLinked trail lits m other × (IsGuarded trail m other ⊎ IsNoted notes name)) ⊎ IsPending trail next lits m other
@@ -111,22 +62,22 @@ module _ (clauses : List NamedClause) (trail done next : List Entry) (notes : Li
         by_case (inr pending) = inr pending
 
     -- another one became false later
-    pub visit_late : (last : Literal) → None ≡ find (λ k. not (is_false trail k || same k other)) lits → IsLatest trail lits other last → nat_lt (place_in trail own) (place_in trail last) ≡ true → IsRow clauses trail next notes name last other
+    pub visit_late : (last : Literal) → IsOther trail lits other None → IsLatest trail lits other last → nat_lt (place_in trail own) (place_in trail last) ≡ true → IsRow clauses trail next notes name last other
     visit_late last none latest later = record {
       lits = lits;
       found = found;
       pair = record { first = latest.held; second = parts.0.second; apart = latest.apart };
-      met = inr (stuck_late trail done next own step lits other parts.0 (unnoted trail done notes name own other lits parts.1) last (link_none trail lits other none) latest later);
+      met = inr (stuck_late trail done next own step lits other parts.0 (unnoted trail done notes name own other lits parts.1) last none latest later);
     }
 
     -- none did, and the clause is noted
-    pub visit_noted : (last : Literal) (more : List Note) → None ≡ find (λ k. not (is_false trail k || same k other)) lits → IsLatest trail lits other last → nat_lt (place_in trail own) (place_in trail last) ≡ false →
+    pub visit_noted : (last : Literal) (more : List Note) → IsOther trail lits other None → IsLatest trail lits other last → nat_lt (place_in trail own) (place_in trail last) ≡ false →
         IsNoted more name → IsRow clauses trail next more name own other
     visit_noted last more none latest most noted = record {
       lits = lits;
       found = found;
       pair = parts.0;
-      met = inl (stuck_own trail done next own step lits other parts.0 (unnoted trail done notes name own other lits parts.1) last (link_none trail lits other none) latest most, inr noted);
+      met = inl (stuck_own trail done next own step lits other parts.0 (unnoted trail done notes name own other lits parts.1) last none latest most, inr noted);
     }
 
 -- the pair of a name whose literals were read
@@ -134,10 +85,9 @@ pub pair_at : (clauses : List NamedClause) (name : Name) (a b : Literal) (lits :
 pair_at clauses name a b lits has found = subst (λ ls. IsPair ls a b) (same_Some has.lits lits (sym has.found ∙ found)) has.pair
 
 pub pair_found : (clauses : List NamedClause) (trail : List Entry) (name : Name) (own other m : Literal) (lits : List Literal) → HasPair clauses name own other → lits_at clauses name ≡ Some lits →
-    Some m ≡ find (λ k. not (is_false trail k || same k other)) lits → HasPair clauses name m other
+    IsOther trail lits other (Some m) → HasPair clauses name m other
 pair_found clauses trail name own other m lits has found is =
-    let one = link_found trail lits other m is in
-    record { lits = lits; found = found; pair = record { first = one.0; second = (pair_at clauses name own other lits has found).second; apart = one.1 } }
+    record { lits = lits; found = found; pair = record { first = is.0; second = (pair_at clauses name own other lits has found).second; apart = is.1 } }
 
 pub pair_last : (clauses : List NamedClause) (trail : List Entry) (name : Name) (own other last : Literal) (lits : List Literal) → HasPair clauses name own other → lits_at clauses name ≡ Some lits →
     IsLatest trail lits other last → HasPair clauses name last other
@@ -146,9 +96,9 @@ pair_last clauses trail name own other last lits has found latest =
 
 -- the note of a clause all of whose literals but one are false
 pub note_sound : (clauses : List NamedClause) (trail : List Entry) (name : Name) (own other : Literal) (lits : List Literal) (row : ℕ) → HasPair clauses name own other → lits_at clauses name ≡ Some lits →
-    None ≡ find (λ k. not (is_false trail k || same k other)) lits → IsNoteOf trail clauses (record { name = name; lit = Some other; row = row })
+    IsOther trail lits other None → IsNoteOf trail clauses (record { name = name; lit = Some other; row = row })
 note_sound clauses trail name own other lits row has found none =
-    record { lits = lits; found = found; tells = record { held = (pair_at clauses name own other lits has found).second; others = link_none trail lits other none } }
+    record { lits = lits; found = found; tells = record { held = (pair_at clauses name own other lits has found).second; others = none } }
 
 -- the name of a row that was read
 pub name_read : (rows : List Row) (i : ℕ) (r : Row) → i < length rows → r ≡ get_or rows i r → slice_get (row_names rows) i ≡ Some r.name

@@ -2,7 +2,7 @@
 use Rattle.std.proofs.Common.{◌≡◌, ◌≢◌, ◌⊎◌, ℕ, ◌+◌, ◌-◌, ◌*◌, ◌/◌, ◌%◌, ◌<◌, ◌≤◌, ◌==◌, Bool, true, false, List, [], ◌∷◌, length, set, refl, inl, inr, ap, sym, ◌∙◌, subst, arith}
 use Rattle.std.specs.Prelude.{Some, slice_get, if◌then◌else◌}
 use Rattle.std.proofs.lemmas.Bool.{cases_eq, cases_lt, eqb-true, eqb-false, ne_eqb, eq-eqb}
-use Rattle.std.proofs.lemmas.List.{length-set, length-map, get_or_past, get_or-set_same, get_or-set_other, nil_from_length}
+use Rattle.std.proofs.lemmas.List.{length-set, length-map, get_or_past, nil_from_length}
 use Rattle.std.proofs.lemmas.Option.{same_Some}
 use Rattle.lit_base.specs.Literal.{Literal, same}
 use Rattle.lit_base.specs.Trail.{is_false}
@@ -13,12 +13,13 @@ use Rattle.lit_base.proofs.Known.{same_itself}
 use Rattle.trail_book.specs.Arrays.{index_of}
 use Rattle.round_prop.specs.declared.node.Node.{Node}
 use Rattle.round_prop.specs.declared.note.Note.{Note}
-use Rattle.round_prop.specs.Chains.{nexts_of, lits_of, list_at, times_in, times, total, AreLists, AreThreaded}
+use Rattle.round_prop.specs.Chains.{no_node, nexts_of, lits_of, list_at, times_in, times, onto, last_of, in_place, AreLists, AreThreaded}
 use Rattle.round_prop.specs.Linked.{IsGuarded, IsLinked, IsWaiting, IsPending, IsStep, AreFalseWith}
 use Rattle.round_prop.specs.Noting.{IsNoted}
 use Rattle.round_prop.specs.Readied.{flip, IsRow, AreRows}
 use Rattle.round_prop.specs.Walking.{IsInList, IsWalkOf}
 use Rattle.round_prop.proofs.ChainSteps.{times-set, total-set, times_one, times_two, list_at-set, first_once}
+use Rattle.round_prop.proofs.InPlace.{times_in-onto, in_place-zero, in_place-own, in_place-other, in_place-total, is_in_place}
 use Rattle.round_prop.proofs.LinkSteps.{not_both, pair_swap, guarded_swap, linked_swap, only_own}
 use Rattle.round_prop.proofs.NoteSteps.{slice_get-set}
 
@@ -170,13 +171,16 @@ literal_cases a l = by_case (cases_eq (index_of a) (index_of l))
 -- a walk begins
 pub walk_begins : (clauses : List NamedClause) (trail done next : List Entry) (l : Literal) (left steps most : ℕ) (heads : List ℕ) (nodes : List Node) (names : List Name) (notes : List Note) →
     IsStep trail done next l → length nodes ≡ 2 * length names → (threaded : AreThreaded heads nodes) → AreRows clauses trail done notes names (lits_of nodes) →
-    length (list_at threaded.lists (index_of l)) ≤ left → steps + length (list_at threaded.lists (index_of l)) ≤ most →
-    IsWalkOf clauses trail done next l left steps most heads nodes names notes
-walk_begins clauses trail done next l left steps most heads nodes names notes step sized threaded rows few cheap = record {
+    1 ≤ index_of l → index_of l < length heads → length (list_at threaded.lists (index_of l)) ≤ left → steps + length (list_at threaded.lists (index_of l)) ≤ most →
+    IsWalkOf clauses trail done next l left steps most no_node heads nodes names notes
+walk_begins clauses trail done next l left steps most heads nodes names notes step sized threaded rows real inside few cheap = record {
   sized = sized;
   begun = threaded.begun;
   lists = threaded.lists;
-  are = threaded.are;
+  long = threaded.are.long;
+  once = threaded.are.once;
+  are = subst (λ lists. AreLists heads (nexts_of nodes) lists) begun_in_place threaded.are;
+  stays = ap last_of (sym threaded.stage);
   placed = λ n a is. inl (threaded.placed n a is);
   real = λ n a is. some_index n a is (cases_eq (index_of a) 0);
   all = threaded.all;
@@ -186,6 +190,11 @@ walk_begins clauses trail done next l left steps most heads nodes names notes st
   cheap = cheap;
 }
   where
+    begun_in_place : threaded.lists ≡ in_place (index_of l) threaded.lists
+    begun_in_place =
+        is_in_place (index_of l) threaded.lists real (omega (arith, inside, threaded.are.long)) threaded.lists refl threaded.stage
+        (sym (ap (λ met. onto met (list_at threaded.lists (index_of l))) threaded.stage)) (λ r some other. refl)
+
     some_index : (n : ℕ) (a : Literal) → slice_get (lits_of nodes) n ≡ Some a → (index_of a ≡ 0) ⊎ (index_of a ≢ 0) → 1 ≤ index_of a
     some_index n a is (inl z) =
         let one = threaded.placed n a is in let none : times_in n (list_at threaded.lists (index_of a)) ≡ 0 = ap (λ r. times_in n (list_at threaded.lists r)) z ∙ ap (λ ns. times_in n ns) threaded.stage in
@@ -199,21 +208,21 @@ walk_begins clauses trail done next l left steps most heads nodes names notes st
     by_cases n name a b named own other (inr not_a) (inr not_b) = inl (row_passed clauses trail done next l notes name a b step not_a not_b (rows n name a b named own other))
 
 -- the literal of a node that is in the list
-pub node_own : (clauses : List NamedClause) (trail done next : List Entry) (l : Literal) (left steps most : ℕ) (heads : List ℕ) (nodes : List Node) (names : List Name) (notes : List Note) →
-    (walk : IsWalkOf clauses trail done next l left steps most heads nodes names notes) (n : ℕ) (a : Literal) → 1 ≤ times_in n (list_at walk.lists (index_of l)) → slice_get (lits_of nodes) n ≡ Some a → a ≡ l
-node_own clauses trail done next l left steps most heads nodes names notes walk n a inside is = by_case (walk.placed n a is)
+pub node_own : (clauses : List NamedClause) (trail done next : List Entry) (l : Literal) (left steps most last : ℕ) (heads : List ℕ) (nodes : List Node) (names : List Name) (notes : List Note) →
+    (walk : IsWalkOf clauses trail done next l left steps most last heads nodes names notes) (n : ℕ) (a : Literal) → 1 ≤ times_in n (list_at walk.lists (index_of l)) → slice_get (lits_of nodes) n ≡ Some a → a ≡ l
+node_own clauses trail done next l left steps most last heads nodes names notes walk n a inside is = by_case (walk.placed n a is)
   where
     by_index : times_in n (list_at walk.lists (index_of a)) ≡ 1 → (index_of a ≡ index_of l) ⊎ (index_of a ≢ index_of l) → a ≡ l
     by_index one (inl same_index) = index_apart a l same_index
-    by_index one (inr apart) = absurd (omega (arith, one, inside, times_two n walk.lists (index_of a) (index_of l) apart, walk.are.once n))
+    by_index one (inr apart) = absurd (omega (arith, one, inside, times_two n walk.lists (index_of a) (index_of l) apart, walk.once n))
 
     by_case : IsInList walk.lists a n ⊎ ((a ≡ l) × (times_in n (list_at walk.lists 0) ≡ 1)) → a ≡ l
     by_case (inl one) = by_index one (cases_eq (index_of a) (index_of l))
     by_case (inr (own, one)) = own
 
 -- a walk goes on: the first node of the list is taken, and put where its new link says
-module _ (clauses : List NamedClause) (trail done next : List Entry) (l : Literal) (left steps most : ℕ) (heads : List ℕ) (nodes : List Node) (names : List Name) (notes : List Note)
-    (walk : IsWalkOf clauses trail done next l (left + 1) steps most heads nodes names notes) (n : ℕ) (later : List ℕ) (first : list_at walk.lists (index_of l) ≡ n ∷ later) where
+module _ (clauses : List NamedClause) (trail done next : List Entry) (l : Literal) (left steps most last : ℕ) (heads : List ℕ) (nodes : List Node) (names : List Name) (notes : List Note)
+    (walk : IsWalkOf clauses trail done next l (left + 1) steps most last heads nodes names notes) (n : ℕ) (later : List ℕ) (first : list_at walk.lists (index_of l) ≡ n ∷ later) where
   abbrev pub p : ℕ
   p = index_of l
 
@@ -221,7 +230,7 @@ module _ (clauses : List NamedClause) (trail done next : List Entry) (l : Litera
   once_first = ap (λ ns. times_in n ns) first ∙ first_once n later
 
   none_later : times_in n later ≡ 0
-  none_later = omega (arith, once_first, times_one n walk.lists p, walk.are.once n)
+  none_later = omega (arith, once_first, times_one n walk.lists p, walk.once n)
 
   pub in_list : IsInList walk.lists l n
   in_list = omega (arith, once_first, none_later)
@@ -241,13 +250,13 @@ module _ (clauses : List NamedClause) (trail done next : List Entry) (l : Litera
 
   -- it is in no list now
   pub out_of_lists : times n popped ≡ 0
-  out_of_lists = omega (arith, times-set n walk.lists p later p_inside, once_first, none_later, walk.are.once n, times_one n walk.lists p)
+  out_of_lists = omega (arith, times-set n walk.lists p later p_inside, once_first, none_later, walk.once n, times_one n walk.lists p)
 
-  module _ (q : ℕ) (real : 1 ≤ index_of l) (m b : Literal) (real_m : 1 ≤ index_of m) (name : Name) (after-heads : List ℕ) (after-nodes : List Node) (after-notes : List Note) (now : ℕ)
+  module _ (q : ℕ) (real : 1 ≤ index_of l) (m b : Literal) (real_m : 1 ≤ index_of m) (name : Name) (after-heads : List ℕ) (after-nodes : List Node) (after-notes : List Note) (now after : ℕ)
       (named : slice_get names (n / 2) ≡ Some name) (own : slice_get (lits_of nodes) n ≡ Some l) (other : slice_get (lits_of nodes) (flip n) ≡ Some b)
       (queue : ((m ≡ l) × (q ≡ 0)) ⊎ ((m ≢ l) × (q ≡ index_of m))) (q_inside : q < length walk.lists)
       (lits : lits_of after-nodes ≡ set (lits_of nodes) n m) (heads_len : length after-heads ≡ length heads)
-      (are : AreLists after-heads (nexts_of after-nodes) (set popped q (n ∷ list_at popped q)))
+      (are : AreLists after-heads (nexts_of after-nodes) (in_place (index_of l) (set popped q (n ∷ list_at popped q)))) (stays : after ≡ last_of (list_at (set popped q (n ∷ list_at popped q)) 0))
       (kept : (k : Name) → IsNoted notes k → IsNoted after-notes k) (row : IsRow clauses trail next after-notes name m b) (paid : now ≤ steps + 1) where
     abbrev pub pushed : List (List ℕ)
     pushed = set popped q (n ∷ list_at popped q)
@@ -370,12 +379,15 @@ module _ (clauses : List NamedClause) (trail done next : List Entry) (l : Litera
         by_cases (inr (_, old)) (inl (is, new)) = that_row is new old
         by_cases (inr (apart, old)) (inr (too, old_too)) = by_old apart too (walk.rows k x a c at old old_too)
 
-    pub walk_met : IsWalkOf clauses trail done next l left now most after-heads after-nodes names after-notes
+    pub walk_met : IsWalkOf clauses trail done next l left now most after after-heads after-nodes names after-notes
     walk_met = record {
       sized = omega (arith, walk.sized, same_nodes);
       begun = omega (arith, walk.begun, heads_len);
       lists = pushed;
+      long = omega (arith, length-set popped q (n ∷ list_at popped q), length-set walk.lists p later, walk.long, heads_len);
+      once = once_after;
       are = are;
+      stays = stays;
       placed = placed_after;
       real = λ k a is. real_after k a (lit_cases k a is);
       all = omega (arith, total-set popped q (n ∷ list_at popped q) q_in_popped, total-set walk.lists p later p_inside, long_first, walk.all, same_nodes);
@@ -385,6 +397,13 @@ module _ (clauses : List NamedClause) (trail done next : List Entry) (l : Litera
       cheap = omega (arith, long_left, long_first, walk.cheap, paid);
     }
       where
+        once_after : (k : ℕ) → times k pushed ≤ 1
+        once_after k =
+            let a = times-set k popped q (n ∷ list_at popped q) q_in_popped in
+            let b = times-set k walk.lists p later p_inside in
+            let c = ap (λ ns. times_in k ns) first in
+            omega (arith, a, b, c, walk.once k)
+
         real_after : (k : ℕ) (a : Literal) → ((k ≡ n) × (a ≡ m)) ⊎ ((k ≢ n) × (slice_get (lits_of nodes) k ≡ Some a)) → 1 ≤ index_of a
         real_after k a (inl (_, new)) = subst (λ z. 1 ≤ index_of z) (sym new) real_m
         real_after k a (inr (_, old)) = walk.real k a old
@@ -398,32 +417,23 @@ module _ (clauses : List NamedClause) (trail done next : List Entry) (l : Litera
         same_nodes : length after-nodes ≡ length nodes
         same_nodes = let e = ap length lits in omega (arith, e, length-set (lits_of nodes) n m, length-map nodes (λ (k : Node). k.lit), length-map after-nodes (λ (k : Node). k.lit))
 
--- a walk ends: list 0 takes the place of the one that was walked
-module _ (clauses : List NamedClause) (trail done next : List Entry) (l : Literal) (steps most : ℕ) (heads : List ℕ) (nodes : List Node) (names : List Name) (notes : List Note)
-    (walk : IsWalkOf clauses trail done next l 0 steps most heads nodes names notes) (real : 1 ≤ index_of l) (inside : index_of l < length heads) where
+-- a walk ends: what was met and stays is the list
+module _ (clauses : List NamedClause) (trail done next : List Entry) (l : Literal) (steps most last : ℕ) (heads : List ℕ) (nodes : List Node) (names : List Name) (notes : List Note)
+    (walk : IsWalkOf clauses trail done next l 0 steps most last heads nodes names notes) (real : 1 ≤ index_of l) (inside : index_of l < length heads) where
   empty : list_at walk.lists (index_of l) ≡ []
   empty = nil_from_length (list_at walk.lists (index_of l)) (omega (arith, walk.few))
 
   abbrev pub ended : List (List ℕ)
-  ended = set (set walk.lists (index_of l) (list_at walk.lists 0)) 0 []
+  ended = in_place (index_of l) walk.lists
 
   p_within : index_of l < length walk.lists
-  p_within = omega (arith, walk.are.long, inside)
+  p_within = omega (arith, walk.long, inside)
 
-  zero_within : 0 < length (set walk.lists (index_of l) (list_at walk.lists 0))
-  zero_within = omega (arith, p_within, length-set walk.lists (index_of l) (list_at walk.lists 0))
-
-  at_zero_list : list_at ended 0 ≡ []
-  at_zero_list = get_or-set_same (set walk.lists (index_of l) (list_at walk.lists 0)) 0 [] [] zero_within
-
-  at_own : list_at ended (index_of l) ≡ list_at walk.lists 0
-  at_own =
-      get_or-set_other (set walk.lists (index_of l) (list_at walk.lists 0)) 0 (index_of l) [] [] (λ z. absurd (omega (arith, z, real)))
-      ∙ get_or-set_same walk.lists (index_of l) (list_at walk.lists 0) [] p_within
-
-  at_other : (r : ℕ) → r ≢ 0 → r ≢ index_of l → list_at ended r ≡ list_at walk.lists r
-  at_other r some apart =
-      get_or-set_other (set walk.lists (index_of l) (list_at walk.lists 0)) 0 r [] [] some ∙ get_or-set_other walk.lists (index_of l) r (list_at walk.lists 0) [] apart
+  times_own : (k : ℕ) → times_in k (list_at ended (index_of l)) ≡ times_in k (list_at walk.lists 0)
+  times_own k =
+      let a = ap (λ ns. times_in k ns) (in_place-own (index_of l) walk.lists real p_within) in
+      let b = ap (λ ns. times_in k ns) empty in
+      omega (arith, a, b, times_in-onto k (list_at walk.lists 0) (list_at walk.lists (index_of l)))
 
   placed_end : (k : ℕ) (a : Literal) → slice_get (lits_of nodes) k ≡ Some a → times_in k (list_at ended (index_of a)) ≡ 1
   placed_end k a is = by_case (walk.placed k a is) (cases_eq (index_of a) (index_of l)) (cases_eq (index_of a) 0)
@@ -432,28 +442,26 @@ module _ (clauses : List NamedClause) (trail done next : List Entry) (l : Litera
       gone = ap (λ ns. times_in k ns) empty
 
       by_case : IsInList walk.lists a k ⊎ ((a ≡ l) × (times_in k (list_at walk.lists 0) ≡ 1)) → (index_of a ≡ index_of l) ⊎ (index_of a ≢ index_of l) → (index_of a ≡ 0) ⊎ (index_of a ≢ 0) → times_in k (list_at ended (index_of a)) ≡ 1
-      by_case (inr (own, one)) second third = ap (λ b. times_in k (list_at ended (index_of b))) own ∙ (ap (λ ns. times_in k ns) at_own ∙ one)
+      by_case (inr (own, one)) second third = ap (λ b. times_in k (list_at ended (index_of b))) own ∙ (times_own k ∙ one)
       by_case (inl one) (inl is_own) third = absurd (omega (arith, gone, e))
         where
           e : times_in k (list_at walk.lists (index_of l)) ≡ 1
           e = ap (λ r. times_in k (list_at walk.lists r)) (sym is_own) ∙ one
-      by_case (inl one) (inr apart) (inr some) = ap (λ ns. times_in k ns) (at_other (index_of a) some apart) ∙ one
+      by_case (inl one) (inr apart) (inr some) = ap (λ ns. times_in k ns) (in_place-other (index_of l) walk.lists real p_within (index_of a) some apart) ∙ one
       by_case (inl one) (inr apart) (inl z) = no_literal (walk.real k a is) z
         where
           no_literal : 1 ≤ index_of a → index_of a ≡ 0 → times_in k (list_at ended (index_of a)) ≡ 1
           no_literal some zero_is = absurd (omega (arith, some, zero_is))
 
-  total_end : total ended ≡ length nodes
-  total_end =
-      let one = total-set walk.lists (index_of l) (list_at walk.lists 0) p_within in
-      let two = total-set (set walk.lists (index_of l) (list_at walk.lists 0)) 0 [] zero_within in
-      let three : length (list_at walk.lists (index_of l)) ≡ 0 = ap length empty in
-      let four : length (list_at (set walk.lists (index_of l) (list_at walk.lists 0)) 0) ≡ length (list_at walk.lists 0) =
-      ap length (get_or-set_other walk.lists (index_of l) 0 (list_at walk.lists 0) [] (λ z. absurd (omega (arith, z, real)))) in
-      omega (arith, one, two, three, four, walk.all)
-
-  pub walk_threads : (after-heads : List ℕ) → AreLists after-heads (nexts_of nodes) ended → length after-heads ≡ length heads → AreThreaded after-heads nodes
-  walk_threads after-heads are long = record { lists = ended; are = are; begun = omega (arith, walk.begun, long); stage = at_zero_list; placed = placed_end; all = total_end }
+  pub walk_threads : AreThreaded heads nodes
+  walk_threads = record {
+    lists = ended;
+    are = walk.are;
+    begun = walk.begun;
+    stage = in_place-zero (index_of l) walk.lists real p_within;
+    placed = placed_end;
+    all = in_place-total (index_of l) walk.lists real p_within ∙ walk.all;
+  }
 
   pub walk_rows : AreRows clauses trail next notes names (lits_of nodes)
   walk_rows n name a b named own other = by_case (walk.rows n name a b named own other)

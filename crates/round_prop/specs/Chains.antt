@@ -56,10 +56,24 @@ pub record AreThreaded (heads : List ℕ) (nodes : List Node) : Type 0 where
   pub placed : (n : ℕ) (l : Literal) → slice_get (lits_of nodes) n ≡ Some l → times_in n (list_at lists (index_of l)) ≡ 1
   pub all : total lists ≡ length nodes
 
--- what comes of taking the first node of a list: it leaves, or the list is empty
-abbrev pub IsPopped : List ℕ → List ℕ → List (List ℕ) → ℕ → Option ℕ → Type 0
-IsPopped heads nexts lists p None = (list_at lists p ≡ []) × AreLists heads nexts lists
-IsPopped heads nexts lists p (Some n) = (later : List ℕ) × ((list_at lists p ≡ n ∷ later) × AreLists heads nexts (set lists p later))
+-- a list of which some nodes were met, the newest first, and others are left
+abbrev pub onto : List ℕ → List ℕ → List ℕ
+onto [] rest = rest
+onto (n ∷ older) rest = onto older (n ∷ rest)
+
+-- the node that was met last, and no node where none was
+abbrev pub last_of : List ℕ → ℕ
+last_of [] = no_node
+last_of (n ∷ older) = n
+
+-- the lists as they stand in the arrays while one is walked: what list 0 has stands before what is left of that one
+abbrev pub in_place : ℕ → List (List ℕ) → List (List ℕ)
+in_place p lists = set (set lists p (onto (list_at lists 0) (list_at lists p))) 0 []
+
+-- the first node of a list, and None where it is empty
+abbrev pub IsFront : List ℕ → Option ℕ → Type 0
+IsFront rest None = rest ≡ []
+IsFront rest (Some n) = (later : List ℕ) × (rest ≡ n ∷ later)
 
 -- the same of the first so many nodes, while the others are in no list
 pub record ArePartlyThreaded (heads : List ℕ) (nodes : List Node) (count : ℕ) : Type 0 where

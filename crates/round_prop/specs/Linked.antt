@@ -66,6 +66,11 @@ place_in trail l = or_zero (place_of trail l.variable)
 abbrev pub AreAllBut : List Entry → Literal → List Literal → Type 0
 AreAllBut trail other lits = list_all (λ m. is_false trail m || same m other) lits ≡ true
 
+-- a literal of a clause that is neither false nor this one; all but this one are false where there is none
+abbrev pub IsOther : List Entry → List Literal → Literal → Option Literal → Type 0
+IsOther trail lits other None = AreAllBut trail other lits
+IsOther trail lits other (Some l) = IsOneOf lits l × (same l other ≡ false) × (is_false trail l ≡ false)
+
 -- of a clause's literals but one, this one became false last
 pub record IsLatest (trail : List Entry) (lits : List Literal) (other last : Literal) : Type 0 where
   pub held : IsOneOf lits last

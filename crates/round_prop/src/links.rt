@@ -1,17 +1,17 @@
-ghost use Rattle.std.specs.Prelude.{◌≡◌, ◌+◌, ◌<◌, ◌≤◌, ◌≢◌, ℕ, [], ◌∷◌, ◌++◌, List, All, set, length, vec_len, vec_capacity};
+ghost use Rattle.std.specs.Prelude.{◌≡◌, ◌+◌, ◌<◌, ◌≤◌, ℕ, [], ◌∷◌, ◌++◌, List, All, set, length, vec_len, vec_capacity};
 ghost use Rattle.lit_base.specs.Literal.{Literal};
 ghost use Rattle.trail_book.specs.Arrays.{index_of};
-ghost use Rattle.round_prop.specs.Chains.{no_node, nexts_of, lits_of, list_at, times, AreLists, AreThreaded, IsPopped};
+ghost use Rattle.round_prop.specs.Chains.{no_node, nexts_of, lits_of, list_at, times, last_of, onto, AreLists, AreThreaded, IsChain, IsFront};
 
 use crate::node::Node;
 use lit_base::Lit;
 
 /// The number that no node has: a list ends there.
-const NO_NODE: u32 = u32::MAX;
+pub(crate) const NO_NODE: u32 = u32::MAX;
 
 /// Lists of nodes, one for each literal by its index, where each clause that is linked has two.
 ///
-/// `heads` has the first node of each list; nodes 2 r and 2 r + 1 are of row r. List 0 is of no literal.
+/// `heads` has the first node of each list; nodes 2 r and 2 r + 1 are of row r. List 0 is of no literal, and empty.
 #[derive(Drop)]
 pub(crate) struct Links {
     pub(crate) heads: Vec<u32>,
@@ -19,20 +19,47 @@ pub(crate) struct Links {
 }
 
 impl Links {
-    /// Takes the first node of a list out of it; None where the list is empty.
-    pub(crate) fn pop(&mut self, list: usize) -> Option<u32>
-        requires { list < length self.old.heads.items }
-        ensures popped { (lists : List (List ℕ)) → AreLists self.old.heads.items (nexts_of self.old.nodes.items) lists →
-            IsPopped self.new.heads.items (nexts_of self.new.nodes.items) lists list result }
-        ensures nodes { self.new.nodes ≡ self.old.nodes }
-        ensures heads { length self.new.heads.items ≡ length self.old.heads.items }
+    /// The node behind `last` in a list, and the first one where `last` is no node; None where the list ends there.
+    pub(crate) fn behind(&self, list: usize, last: u32) -> Option<u32>
+        requires { list < length self.now.heads.items }
+        ensures { (lists : List (List ℕ)) (met rest : List ℕ) → AreLists self.now.heads.items (nexts_of self.now.nodes.items) lists →
+            list_at lists list ≡ onto met rest → last ≡ last_of met → IsFront rest result }
     {
-        let first = self.heads[list];
-        if first as usize >= self.nodes.len() {
-            return None;
+        let next = self.next(list, last);
+        if (next as usize) < self.nodes.len() {
+            return Some(next);
         }
-        self.heads[list] = self.nodes[first as usize].next;
-        Some(first)
+        None
+    }
+
+    /// What is told behind a node, or in front of a list where there is no such node.
+    fn next(&self, list: usize, last: u32) -> u32
+        requires { list < length self.now.heads.items }
+        ensures { (lists : List (List ℕ)) (met rest : List ℕ) → AreLists self.now.heads.items (nexts_of self.now.nodes.items) lists →
+            list_at lists list ≡ onto met rest → last ≡ last_of met → IsChain (nexts_of self.now.nodes.items) result rest }
+    {
+        if (last as usize) < self.nodes.len() {
+            return self.nodes[last as usize].next;
+        }
+        self.heads[list]
+    }
+
+    /// Takes the node behind `last` out of a list, or the first one where `last` is no node.
+    pub(crate) fn unlink(&mut self, list: usize, last: u32, node: u32)
+        requires list { list < length self.old.heads.items }
+        requires node { node < length self.old.nodes.items }
+        ensures unlinked { (lists : List (List ℕ)) (met later : List ℕ) → AreLists self.old.heads.items (nexts_of self.old.nodes.items) lists →
+            list_at lists list ≡ onto met (node ∷ later) → last ≡ last_of met → AreLists self.new.heads.items (nexts_of self.new.nodes.items) (set lists list (onto met later)) }
+        ensures lits { lits_of self.new.nodes.items ≡ lits_of self.old.nodes.items }
+        ensures heads { length self.new.heads.items ≡ length self.old.heads.items }
+        ensures room { vec_capacity self.new.nodes ≡ vec_capacity self.old.nodes }
+    {
+        let next = self.nodes[node as usize].next;
+        if (last as usize) < self.nodes.len() {
+            self.nodes[last as usize].next = next;
+            return;
+        }
+        self.heads[list] = next;
     }
 
     /// Puts a node that is in no list in front of one, linked by this literal.
@@ -48,19 +75,6 @@ impl Links {
         let next = self.heads[list];
         self.nodes[node as usize] = Node { next, lit };
         self.heads[list] = node;
-    }
-
-    /// Moves list 0 to the place of an empty list.
-    pub(crate) fn restore(&mut self, list: usize)
-        requires begun { 0 < length self.old.heads.items }
-        requires list { list < length self.old.heads.items }
-        ensures moved { (lists : List (List ℕ)) → AreLists self.old.heads.items (nexts_of self.old.nodes.items) lists →
-            list ≢ 0 → list_at lists list ≡ [] → AreLists self.new.heads.items (nexts_of self.new.nodes.items) (set (set lists list (list_at lists 0)) 0 []) }
-        ensures nodes { self.new.nodes ≡ self.old.nodes }
-        ensures heads { length self.new.heads.items ≡ length self.old.heads.items }
-    {
-        self.heads[list] = self.heads[0];
-        self.heads[0] = NO_NODE;
     }
 
     /// A node more, in reserved room, in the list of its literal.

@@ -1,6 +1,6 @@
 ghost use Rattle.std.specs.Prelude.{◌≡◌, ◌<◌, [], List, All, IsTrue, Some, OnOk, not, find};
 ghost use Rattle.lit_base.specs.Literal.{Literal};
-ghost use Rattle.lit_base.specs.Trail.{is_false};
+ghost use Rattle.lit_base.specs.Trail.{is_false, is_true};
 ghost use Rattle.lit_base.specs.Quiet.{IsQuiet};
 ghost use Rattle.lit_base.specs.Named.{lits_at};
 ghost use Rattle.lit_base.specs.Held.{clauses_of, is_among};
@@ -9,11 +9,11 @@ ghost use Rattle.trail_book.specs.TrailState.{decided};
 ghost use Rattle.round_prop.specs.Attached.{IsAttached};
 ghost use Rattle.round_prop.specs.Propagation.{MayPropagate};
 
-use crate::clause::{is_false, is_true, other_link};
+use crate::clause::{is_false, other_link};
 use crate::removal::is_among;
 use crate::{Found, Rounds};
 use clause_pool::{Pool, Steps};
-use lit_base::{Clause, Lit, Name, NoMemory};
+use lit_base::{Clause, Lit, Name, NoMemory, Value};
 use std::alloc::Global;
 use std::marker::Brand;
 use std::process::Abort;
@@ -354,6 +354,17 @@ fn first_alive(trail: &Trail, lits: &[Lit]) -> Option<Lit>
     ensures { result ≡ find (λ m. not (is_false trail.now.entries m)) lits.now }
 {
     lits.iter().copied().find(|lit| !is_false(trail, *lit))
+}
+
+/// Whether the literal is true on the trail.
+fn is_true(trail: &Trail, lit: Lit) -> bool
+    ensures { result ≡ is_true trail.now.entries lit }
+{
+    match trail.value(lit) {
+        Value::False => false,
+        Value::True => true,
+        Value::Free => false,
+    }
 }
 
 /// Whether a clause is neither unit nor falsified: the first of its literals that isn't false is true, or isn't the only one.

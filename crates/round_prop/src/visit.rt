@@ -3,12 +3,12 @@ ghost use Rattle.std.specs.Prelude.{◌≡◌, ◌+◌, ◌≤◌, ◌<◌, Some
 ghost use Rattle.lit_base.specs.Held.{clauses_of};
 ghost use Rattle.lit_base.specs.declared.trail.Entry.{Entry};
 ghost use Rattle.lit_base.specs.declared.name.Name.{Name};
-ghost use Rattle.round_prop.specs.Linked.{IsStep};
+ghost use Rattle.round_prop.specs.Linked.{place_in, IsStep};
 ghost use Rattle.round_prop.specs.Noting.{AreFlagged, HasMoreNotes, load_of};
 ghost use Rattle.round_prop.specs.Readied.{row_names, IsRow};
 ghost use Rattle.round_prop.specs.Walking.{HasPair};
 
-use crate::clause::{is_older, is_true_before, latest, other_link};
+use crate::clause::{latest, other_link, place};
 use crate::noted::Noted;
 use crate::row::Row;
 use clause_pool::{Pool, Steps};
@@ -19,7 +19,8 @@ use trail_book::Trail;
 /// Looks at the clause of a row whose link `own` has become false, and gives the literal that takes its place: one that isn't
 /// false, else the one that became false last, which may be `own`; then the clause is noted. `other` is its other link.
 ///
-/// Where `other` was true before, nothing is read (as in MiniSat: Eén and Sörensson 2003).
+/// `since` is the place of `own`. Where `other` was true before, nothing is read (as in MiniSat: Eén and Sörensson 2003):
+/// of all literals, only true ones stand below a place.
 pub(crate) fn visit<L: Ledger>(
     rows: &mut [Row],
     noted: &mut Noted,
@@ -27,9 +28,11 @@ pub(crate) fn visit<L: Ledger>(
     trail: &Trail,
     row: u32,
     own: Lit,
+    since: u32,
     other: Lit,
     steps: &mut Steps<L>,
 ) -> Lit
+    requires since { since ≡ place_in trail.now.entries own }
     requires row { row < length rows.old }
     requires flags { length noted.old.flags.items ≡ length rows.old }
     requires room { load_of noted.old.notes.items noted.old.flags.items ≤ vec_capacity noted.old.notes }
@@ -44,18 +47,18 @@ pub(crate) fn visit<L: Ledger>(
     ensures steps { steps.old ≤ steps.new }
     ensures few { steps.new ≤ steps.old + 1 }
 {
-    if is_true_before(trail, other, own) {
+    if trail.standing(other) < since {
         return own;
     }
     let here = rows[row as usize];
-    let mut place = here.place;
-    let lits = pool.lits_near(here.name, &mut place, steps);
-    rows[row as usize].place = place;
+    let mut near = here.place;
+    let lits = pool.lits_near(here.name, &mut near, steps);
+    rows[row as usize].place = near;
     if let Some(lit) = other_link(trail, lits, other) {
         return lit;
     }
     let last = latest(trail, lits, own, other);
-    if is_older(trail, own, last) {
+    if since < place(trail, last) {
         return last;
     }
     noted.add(here.name, other, row);

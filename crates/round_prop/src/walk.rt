@@ -1,16 +1,17 @@
 //! The walk over the nodes of each literal that has become false.
-ghost use Rattle.std.specs.Prelude.{◌≡◌, ◌+◌, ◌*◌, ◌≤◌, ◌<◌, ℕ, All, List, true, false, length, slice_get, vec_capacity, if◌then◌else◌};
-ghost use Rattle.lit_base.specs.Literal.{IsWithin, same};
+ghost use Rattle.std.specs.Prelude.{◌≡◌, ◌+◌, ◌*◌, ◌≤◌, ℕ, All, List, length, vec_capacity, if◌then◌else◌};
+ghost use Rattle.lit_base.specs.Literal.{IsWithin};
 ghost use Rattle.lit_base.specs.Held.{clauses_of};
 ghost use Rattle.lit_base.specs.declared.trail.Entry.{Entry};
 ghost use Rattle.lit_base.specs.declared.name.Name.{Name};
-ghost use Rattle.trail_book.specs.Arrays.{index_of};
-ghost use Rattle.round_prop.specs.Linked.{IsStep};
+ghost use Rattle.round_prop.specs.Linked.{place_in, IsStep};
 ghost use Rattle.round_prop.specs.Noting.{AreFlagged, HasMoreNotes, IsNoted, load_of};
 ghost use Rattle.round_prop.specs.Pairs.{occurrences_of, pairs_of};
 ghost use Rattle.round_prop.specs.Readied.{row_names, flip, oldest, AreNamedApart, HaveSameRows, IsTable};
 ghost use Rattle.round_prop.specs.Walking.{IsWalk, IsInWalk, MayWalk};
 
+use crate::clause::place;
+use crate::links::NO_NODE;
 use crate::table::Table;
 use crate::visit::visit;
 use clause_pool::{Pool, Steps};
@@ -47,7 +48,7 @@ pub(crate) fn gather<L: Ledger>(
 /// Walks over the list of a literal that has become false.
 fn walk<L: Ledger>(table: &mut Table, pool: &Pool, trail: &Trail, own: Lit, steps: &mut Steps<L>)
     requires walk { MayWalk (clauses_of pool.now) trail.now.entries own table.old }
-    requires own { own.variable ≤ length trail.now.saved }
+    requires own { IsWithin (length trail.now.saved) own }
     requires wide { length table.old.links.heads.items ≡ 2 * length trail.now.saved + 2 }
     requires within { All (λ c. All (IsWithin (length trail.now.saved)) c.lits) (clauses_of pool.now) }
     requires room { load_of table.old.noted.notes.items table.old.noted.flags.items ≤ vec_capacity table.old.noted.notes }
@@ -58,49 +59,28 @@ fn walk<L: Ledger>(table: &mut Table, pool: &Pool, trail: &Trail, own: Lit, step
     ensures steps { steps.old ≤ steps.new }
     ensures few { AreNamedApart (row_names table.old.rows.items) → steps.new ≤ steps.old + occurrences_of own (clauses_of pool.now) }
 {
-    walk_all(table, pool, trail, own, steps);
-    table.links.restore(own.index());
-}
-
-/// Looks at the nodes of a literal's list until none is left.
-fn walk_all<L: Ledger>(
-    table: &mut Table,
-    pool: &Pool,
-    trail: &Trail,
-    own: Lit,
-    steps: &mut Steps<L>,
-)
-    requires walk { IsInWalk (clauses_of pool.now) trail.now.entries own table.old }
-    requires flags { length table.old.noted.flags.items ≡ length table.old.rows.items }
-    requires own { own.variable ≤ length trail.now.saved }
-    requires wide { length table.old.links.heads.items ≡ 2 * length trail.now.saved + 2 }
-    requires within { All (λ c. All (IsWithin (length trail.now.saved)) c.lits) (clauses_of pool.now) }
-    requires room { load_of table.old.noted.notes.items table.old.noted.flags.items ≤ vec_capacity table.old.noted.notes }
-    ensures walk { (done next : List Entry) (most : ℕ) → IsStep trail.now.entries done next own →
-        AreFlagged (row_names table.old.rows.items) table.old.noted.flags.items table.old.noted.notes.items →
-        IsWalk (clauses_of pool.now) trail.now.entries done next own (length table.old.links.nodes.items) steps.old most table.old →
-        IsWalk (clauses_of pool.now) trail.now.entries done next own 0 steps.new most table.new }
-    ensures notes { HasMoreNotes trail.now.entries (clauses_of pool.now) (row_names table.old.rows.items) table.old.noted table.new.noted }
-    ensures same { HaveSameRows table.old table.new }
-    ensures steps { steps.old ≤ steps.new }
-{
+    let since = place(trail, own);
+    let mut last = NO_NODE;
     for _ in 0..table.links.nodes.len() {
-        if !step(table, pool, trail, own, steps) {
+        if !step(table, pool, trail, own, since, &mut last, steps) {
             return;
         }
     }
 }
 
-/// Takes a node out of a literal's list, looks at its clause, and puts it where its link says, which for `own` is list 0; answers
-/// whether there was one.
+/// Looks at the clause of the node behind `last`, the last node of a literal's list that was met and stays; answers whether
+/// there was one. Where its link says so, the node leaves for another list. `since` is the place of the literal.
 fn step<L: Ledger>(
     table: &mut Table,
     pool: &Pool,
     trail: &Trail,
     own: Lit,
+    since: u32,
+    last: &mut u32,
     steps: &mut Steps<L>,
 ) -> bool
-    requires walk { IsInWalk (clauses_of pool.now) trail.now.entries own table.old }
+    requires since { since ≡ place_in trail.now.entries own }
+    requires walk { IsInWalk (clauses_of pool.now) trail.now.entries own last.old table.old }
     requires flags { length table.old.noted.flags.items ≡ length table.old.rows.items }
     requires own { own.variable ≤ length trail.now.saved }
     requires wide { length table.old.links.heads.items ≡ 2 * length trail.now.saved + 2 }
@@ -108,13 +88,14 @@ fn step<L: Ledger>(
     requires room { load_of table.old.noted.notes.items table.old.noted.flags.items ≤ vec_capacity table.old.noted.notes }
     ensures walk { (done next : List Entry) (left most : ℕ) → IsStep trail.now.entries done next own →
         AreFlagged (row_names table.old.rows.items) table.old.noted.flags.items table.old.noted.notes.items →
-        IsWalk (clauses_of pool.now) trail.now.entries done next own (left + 1) steps.old most table.old →
-        IsWalk (clauses_of pool.now) trail.now.entries done next own (if result then left else 0) steps.new most table.new }
+        IsWalk (clauses_of pool.now) trail.now.entries done next own (left + 1) steps.old most last.old table.old →
+        IsWalk (clauses_of pool.now) trail.now.entries done next own (if result then left else 0) steps.new most last.new table.new }
     ensures notes { HasMoreNotes trail.now.entries (clauses_of pool.now) (row_names table.old.rows.items) table.old.noted table.new.noted }
     ensures same { HaveSameRows table.old table.new }
     ensures steps { steps.old ≤ steps.new }
 {
-    let Some(node) = table.links.pop(own.index()) else {
+    let list = own.index();
+    let Some(node) = table.links.behind(list, *last) else {
         return false;
     };
     let other = table.links.nodes[flip(node)].lit;
@@ -125,10 +106,16 @@ fn step<L: Ledger>(
         trail,
         node / 2,
         own,
+        since,
         other,
         steps,
     );
-    table.links.put(list_of(link, own), node, link);
+    if link == own {
+        *last = node;
+        return true;
+    }
+    table.links.unlink(list, *last, node);
+    table.links.put(link.index(), node, link);
     true
 }
 
@@ -138,14 +125,4 @@ fn flip(node: u32) -> usize
 {
     let node = node as usize;
     if node % 2 == 0 { node + 1 } else { node - 1 }
-}
-
-/// The list into which a node comes by its new link.
-fn list_of(link: Lit, own: Lit) -> usize
-    ensures { result ≡ (if same link own then 0 else index_of link) }
-{
-    if link == own {
-        return 0;
-    }
-    link.index()
 }

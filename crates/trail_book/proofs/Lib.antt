@@ -4,3 +4,5 @@ pub mod Steps
 pub mod Looks
 pub mod Places
 pub mod Jumps
+pub mod Standings
+pub mod Tellings

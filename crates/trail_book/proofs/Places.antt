@@ -64,7 +64,7 @@ none_with : {A B : Type 0} (a : A) (b : B) (here : Bool) (o : Option A) (p : Opt
 none_with a b true o p same = refl
 none_with a b false o p same = same
 
-none_is : {A : Type 0} (o : Option A) → is_none o ≡ true → o ≡ None
+pub none_is : {A : Type 0} (o : Option A) → is_none o ≡ true → o ≡ None
 none_is None none = refl
 none_is (Some x) none = cc
 

@@ -1,8 +1,8 @@
 -- The state of a trail: its entries, and the value that each variable had when it last left it.
-use Rattle.std.specs.Prelude.{ℕ, ◌≤◌, ◌<◌, ◌^◌, ◌==◌, Bool, List, [], ◌∷◌, length, replicate, Option, Some, None, if◌then◌else◌}
+use Rattle.std.specs.Prelude.{ℕ, ◌+◌, ◌≤◌, ◌<◌, ◌^◌, ◌==◌, Bool, true, false, List, [], ◌∷◌, length, replicate, Option, Some, None, if◌then◌else◌}
 use Rattle.std.specs.List.{AllByRecursion}
 use Rattle.lit_base.specs.Literal.{Literal, IsWithin}
-use Rattle.lit_base.specs.Trail.{level_now, with_decision}
+use Rattle.lit_base.specs.Trail.{is_true, level_now, with_decision}
 use Rattle.lit_base.specs.Backjump.{cut, saved_after}
 use Rattle.lit_base.specs.Fits.{HasDistinctVariables, IsLeveled}
 use Rattle.lit_base.specs.declared.trail.Entry.{Entry}
@@ -33,6 +33,16 @@ jumped level t = record { entries = cut level t.entries; saved = saved_after lev
 abbrev pub place_of : List Entry → ℕ → Option ℕ
 place_of [] v = None
 place_of (e ∷ older) v = if e.lit.variable == v then Some (length older) else place_of older v
+
+-- a standing, from the place of a literal's variable, if it has one, and whether the literal is true
+abbrev pub standing_by : Option ℕ → Bool → ℕ
+standing_by None holds = 2 ^ 30
+standing_by (Some place) true = place
+standing_by (Some place) false = 2 ^ 31 + place
+
+-- where a literal stands: the place of its variable where it is true, 2^30 where its variable is free, and 2^31 more than the place where it is false
+abbrev pub standing_of : List Entry → Literal → ℕ
+standing_of trail l = standing_by (place_of trail l.variable) (is_true trail l)
 
 -- what always holds of a trail
 pub record IsTrail (t : TrailState) : Type 0 where

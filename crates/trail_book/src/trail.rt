@@ -4,8 +4,8 @@ ghost use Rattle.lit_base.specs.declared.trail.Value.TheVariants.{Free};
 ghost use Rattle.lit_base.specs.Trail.{is_free, is_full, level_now, level_of, trail_value};
 ghost use Rattle.lit_base.specs.Backjump.{last_value, with_saved};
 ghost use Rattle.lit_base.specs.Fits.{IsNextLevel};
-ghost use Rattle.trail_book.specs.TrailState.{first_trail, decided, implied, jumped, place_of, IsTrail};
-ghost use Rattle.trail_book.specs.Arrays.{value_at, value_with, number_at, sign_by};
+ghost use Rattle.trail_book.specs.TrailState.{first_trail, decided, implied, jumped, place_of, standing_of, IsTrail};
+ghost use Rattle.trail_book.specs.Arrays.{standing_at, standing_with, value_by_standing, place_by_standing, number_at, sign_by};
 
 use lit_base::{Entry, Lit, Name, NoMemory, Value};
 use std::alloc::Global;
@@ -16,15 +16,14 @@ use std::marker::Model;
 /// Memory is taken by `with_room` alone. After it each call takes a constant time, but `jump` a step for each entry
 /// that leaves.
 ///
-/// `entries` has the oldest entry first, with room for one of each variable; `values` is by the index of a literal;
-/// `levels` and `places` are by variable, each one more than the level or the place, and 0 where the variable is free;
-/// `saved` is by variable from 1 on.
+/// `entries` has the oldest entry first, with room for one of each variable; `standings` is by the index of a literal;
+/// `levels` is by variable, each one more than the level, and 0 where the variable is free; `saved` is by variable from
+/// 1 on.
 #[derive(Debug, Drop)]
 pub struct Trail {
     entries: Vec<Entry>,
-    values: Vec<Value>,
+    standings: Vec<u32>,
     levels: Vec<u32>,
-    places: Vec<u32>,
     saved: Vec<Option<bool>>,
 }
 
@@ -39,10 +38,16 @@ impl Model for Trail {
 
     ghost invariant = { λ t.
         AreArraysOf (record { entries = reverse t.entries.items; saved = t.saved.items })
-        (vec_capacity t.entries) t.values.items t.levels.items t.places.items };
+        (vec_capacity t.entries) t.standings.items t.levels.items };
 }
 
 impl Trail {
+    /// Where a literal stands whose variable is free, 2^30: above each true literal, and below each false one.
+    pub const FREE: u32 = 1_073_741_824;
+
+    /// From where on false literals stand, 2^31.
+    pub const FALSE: u32 = 2_147_483_648;
+
     /// The empty trail of so many variables, with room for an entry of each; `NoMemory` where there is none.
     pub fn with_room(alloc: Global, variables: u32) -> Result<Trail, NoMemory>
         ensures { IfOk result (λ trail. trail ≡ first_trail variables) }
@@ -50,9 +55,8 @@ impl Trail {
         let count = variables as usize;
         Ok(Trail {
             entries: Vec::with_capacity(alloc, count)?,
-            values: free_values(alloc, 2 * (count + 1))?,
-            levels: no_numbers(alloc, count + 1)?,
-            places: no_numbers(alloc, count + 1)?,
+            standings: same_numbers(alloc, 2 * (count + 1), Trail::FREE)?,
+            levels: same_numbers(alloc, count + 1, 0)?,
             saved: none_saved(alloc, count)?,
         })
     }
@@ -122,9 +126,8 @@ impl Trail {
         let entry = self.entries.pop()?;
         let lit = entry.lit;
         let var = lit.var() as usize;
-        write_values(&mut self.values, lit, Value::Free, Value::Free);
+        write_standings(&mut self.standings, lit, Trail::FREE, Trail::FREE);
         self.levels[var] = 0;
-        self.places[var] = 0;
         self.saved[var - 1] = Some(lit.is_positive());
         Some(entry)
     }
@@ -134,7 +137,19 @@ impl Trail {
         ensures value { result ≡ trail_value self.now.entries lit }
         ensures free { (result ≡ Free) ↔ (is_free self.now.entries lit.variable ≡ true) }
     {
-        read_value(&self.values, lit)
+        value_by(self.standing(lit))
+    }
+
+    /// Where a literal stands: the number of entries older than its variable's, and `FALSE` more where the literal is
+    /// false; `FREE` where the variable is free, also past the variables.
+    ///
+    /// So the true literals come first, the oldest at the front, then the free ones, and then the false ones, the one
+    /// that became false last at the end.
+    pub fn standing(&self, lit: Lit) -> u32
+        ensures value { result ≡ standing_of self.now.entries lit }
+        ensures trail { IsTrail self.now }
+    {
+        read_standing(&self.standings, lit.index())
     }
 
     /// The level of the newest entry, and 0 where there is none; at most 1,000,000.
@@ -166,7 +181,7 @@ impl Trail {
     pub fn is_free(&self, var: u32) -> bool
         ensures { result ≡ is_free self.now.entries var }
     {
-        read_sign(&self.values, var).is_none()
+        read_standing(&self.standings, 2 * var as usize) == Trail::FREE
     }
 
     /// The level at which a variable has its value; None where the variable is free.
@@ -183,7 +198,7 @@ impl Trail {
         ensures free { is_none result ≡ is_free self.now.entries var }
         ensures within { IfSome result (λ place. place < length self.now.entries) }
     {
-        Some(read_number(&self.places, var)? as usize)
+        place_by(read_standing(&self.standings, 2 * var as usize))
     }
 
     /// The entry at a place, counted from 0 and from the oldest.
@@ -208,7 +223,7 @@ impl Trail {
     pub fn last(&self, var: u32) -> Option<bool>
         ensures { result ≡ last_value self.now.entries self.now.saved var }
     {
-        match read_sign(&self.values, var) {
+        match sign_by(read_standing(&self.standings, 2 * var as usize)) {
             Some(sign) => Some(sign),
             None => read_saved(&self.saved, var),
         }
@@ -222,26 +237,18 @@ impl Trail {
         ensures { self.new ≡ record self.old { entries = entry ∷ self.old.entries } }
     {
         let lit = entry.lit;
-        write_values(&mut self.values, lit, Value::True, Value::False);
-        let var = lit.var() as usize;
-        self.levels[var] = entry.level + 1;
-        self.places[var] = self.entries.len() as u32 + 1;
+        let place = self.len() as u32;
+        write_standings(&mut self.standings, lit, place, Trail::FALSE + place);
+        self.levels[lit.var() as usize] = entry.level + 1;
         self.entries.push_reserved(entry);
     }
 }
 
-/// So many values, each Free.
-fn free_values(alloc: Global, count: usize) -> Result<Vec<Value>, NoMemory>
-    ensures { IfOk result (λ values. values.items ≡ replicate count Free) }
+/// So many numbers, each this one.
+fn same_numbers(alloc: Global, count: usize, number: u32) -> Result<Vec<u32>, NoMemory>
+    ensures { IfOk result (λ numbers. numbers.items ≡ replicate count number) }
 {
-    Ok(vec![in alloc; Value::Free; count]?)
-}
-
-/// So many numbers, all of them absent.
-fn no_numbers(alloc: Global, count: usize) -> Result<Vec<u32>, NoMemory>
-    ensures { IfOk result (λ numbers. numbers.items ≡ replicate count 0) }
-{
-    Ok(vec![in alloc; 0; count]?)
+    Ok(vec![in alloc; number; count]?)
 }
 
 /// So many saved values, none of them there.
@@ -251,30 +258,54 @@ fn none_saved(alloc: Global, count: usize) -> Result<Vec<Option<bool>>, NoMemory
     Ok(vec![in alloc; None; count]?)
 }
 
-/// Gives a literal and its negation their values.
-fn write_values(values: &mut Vec<Value>, lit: Lit, own: Value, other: Value)
-    requires { 2 * lit.variable + 1 < vec_len values.old }
-    ensures len { vec_len values.new ≡ vec_len values.old }
-    ensures written { (l : Literal) → value_at values.new.items l ≡ value_with lit own other (value_at values.old.items l) l }
+/// Lets a literal and its negation stand where they are told.
+fn write_standings(standings: &mut Vec<u32>, lit: Lit, own: u32, other: u32)
+    requires { 2 * lit.variable + 1 < vec_len standings.old }
+    ensures len { vec_len standings.new ≡ vec_len standings.old }
+    ensures written { (l : Literal) → standing_at standings.new.items l ≡ standing_with lit own other (standing_at standings.old.items l) l }
 {
-    values[lit.index()] = own;
-    values[lit.negated().index()] = other;
+    standings[lit.index()] = own;
+    standings[lit.negated().index()] = other;
 }
 
-/// The value of a literal, and Free past the values.
-fn read_value(values: &[Value], lit: Lit) -> Value
-    ensures { result ≡ value_at values.now lit }
+/// Where the literal of this index stands, and `FREE` past the standings.
+fn read_standing(standings: &[u32], index: usize) -> u32
+    ensures { result ≡ slice_index_or standings.now index Trail.FREE }
 {
-    values.get(lit.index()).copied().unwrap_or(Value::Free)
+    standings.get(index).copied().unwrap_or(Trail::FREE)
 }
 
-/// The sign of a variable, by the value of its positive literal; None past the values.
-fn read_sign(values: &[Value], var: u32) -> Option<bool>
-    ensures { result ≡ sign_by (slice_index_or values.now (2 * var) Free) }
+/// The value of a literal, from where it stands.
+fn value_by(standing: u32) -> Value
+    ensures { result ≡ value_by_standing standing }
 {
-    match values.get(2 * var as usize).copied().unwrap_or(Value::Free) {
+    if standing < Trail::FREE {
+        Value::True
+    } else if standing < Trail::FALSE {
+        Value::Free
+    } else {
+        Value::False
+    }
+}
+
+/// The sign of a variable, from where its positive literal stands; None where the variable is free.
+fn sign_by(standing: u32) -> Option<bool>
+    ensures { result ≡ sign_by (value_by_standing standing) }
+{
+    match value_by(standing) {
         Value::True => Some(true),
         Value::False => Some(false),
+        Value::Free => None,
+    }
+}
+
+/// The place of a variable, from where one of its literals stands; None where the variable is free.
+fn place_by(standing: u32) -> Option<usize>
+    ensures { result ≡ place_by_standing standing }
+{
+    match value_by(standing) {
+        Value::True => Some(standing as usize),
+        Value::False => Some((standing - Trail::FALSE) as usize),
         Value::Free => None,
     }
 }

@@ -16,12 +16,12 @@ returns-clause-mails c fine =
 -- one more is there
 pub loop-from-preserved : goal.loop-from-preserved
 loop-from-preserved c = (
-    search rules,
-    search rules,
-    search rules,
-    search rules,
-    search rules,
-    λ fine. let more = c.keep-fine.ensures fine in
-        came_more mail_at c.args.formula.now c.args.settings.now c.args.past c.loop-from.from c.loop-from.mails.items c.keep-fine.new.kept.items c.take_mail-mail.result c.loop-from-test.true c.take_mail-mail.ensures.mail
-        (c.loop-from.invariant.5 more.0) more.1,
-  )
+  search rules,
+  search rules,
+  search rules,
+  search rules,
+  search rules,
+  λ fine. let more = c.keep-fine.ensures fine in
+      came_more mail_at c.args.formula.now c.args.settings.now c.args.past c.loop-from.from c.loop-from.mails.items c.keep-fine.new.kept.items c.take_mail-mail.result c.loop-from-test.true c.take_mail-mail.ensures.mail
+      (c.loop-from.invariant.5 more.0) more.1,
+)

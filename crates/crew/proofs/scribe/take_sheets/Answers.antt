@@ -16,11 +16,11 @@ returns-clause-sheets c fine =
 -- one more is there
 pub loop-from-preserved : goal.loop-from-preserved
 loop-from-preserved c = (
-    search rules,
-    search rules,
-    search rules,
-    search rules,
-    λ fine. let more = c.keep-fine.ensures fine in
-        came_more sheet_left c.args.formula.now c.args.settings.now c.args.past c.loop-from.from c.loop-from.sheets.items c.keep-fine.new.kept.items c.take_sheet-sheet.result c.loop-from-test.true c.take_sheet-sheet.ensures.sheet
-        (c.loop-from.invariant.4 more.0) more.1,
-  )
+  search rules,
+  search rules,
+  search rules,
+  search rules,
+  λ fine. let more = c.keep-fine.ensures fine in
+      came_more sheet_left c.args.formula.now c.args.settings.now c.args.past c.loop-from.from c.loop-from.sheets.items c.keep-fine.new.kept.items c.take_sheet-sheet.result c.loop-from-test.true c.take_sheet-sheet.ensures.sheet
+      (c.loop-from.invariant.4 more.0) more.1,
+)

@@ -1,48 +1,89 @@
-use Rattle.std.proofs.Common.{◌≡◌, ◌≢◌, ℕ, ◌+◌, List, [], length, refl, subst, arith}
-use Rattle.std.specs.Prelude.{set}
+use Rattle.std.proofs.Common.{◌-◌, true, false, length, ◌∙◌, arith}
 use Rattle.lit_base.specs.Held.{clauses_of}
-use Rattle.trail_book.specs.Arrays.{index_of}
-use Rattle.round_prop.specs.Chains.{nexts_of, list_at, AreLists}
-use Rattle.round_prop.specs.declared.table.Table.{Table}
-use Rattle.round_prop.proofs.TableSteps.{in_walk, begun_walk, walked_table, walk_few, same_restored, index_under}
+use Rattle.round_prop.specs.Readied.{row_names}
+use Rattle.round_prop.proofs.LoopSteps.{one_step, walk_left, more_named, WalkEnds, ended_table, ended_few}
+use Rattle.round_prop.proofs.TableSteps.{in_walk, index_inside, on_still, flags_kept, same_rows-trans, same_rows-refl, more_notes-trans, more_notes-refl}
 use Rattle.round_prop.proofs.walk.walk.Goals as goal
 
-pub walk_all-requires-clause-walk : goal.walk_all-requires-clause-walk
-walk_all-requires-clause-walk g c = in_walk (clauses_of c.args.pool.now) c.args.trail.now.entries c.args.own c.args.table.now c.requires.walk
+pub loop-init : goal.loop-init
+loop-init g c = record {
+  on = in_walk (clauses_of c.args.pool.now) c.args.trail.now.entries c.args.own c.args.table.now c.requires.walk (index_inside (length c.args.trail.now.saved) c.args.own c.requires.own).0
+      (omega (arith, c.requires.wide, (index_inside (length c.args.trail.now.saved) c.args.own c.requires.own).1));
+  walk = λ done next most step flagged walk.
+      walk_left (clauses_of c.args.pool.now) c.args.trail.now.entries done next c.args.own (length c.args.table.now.links.nodes.items) (length c.args.table.now.links.nodes.items - 0) c.args.steps.now most 4294967295 c.args.table.now (omega arith) walk;
+  notes = more_notes-refl c.args.trail.now.entries (clauses_of c.args.pool.now) (row_names c.args.table.now.rows.items) c.args.table.now.noted;
+  same = same_rows-refl c.args.table.now;
+  steps = omega arith;
+}
 
-pub walk_all-requires-clause-flags : goal.walk_all-requires-clause-flags
-walk_all-requires-clause-flags g c = c.requires.walk.table.sized.flags
+pub step-requires-clause-walk : goal.step-requires-clause-walk
+step-requires-clause-walk g c = c.loop.invariant.on
 
-pub restore-requires-clause-begun : goal.restore-requires-clause-begun
-restore-requires-clause-begun g c = omega (arith, c.walk_all.ensures.same.heads, c.requires.wide)
+pub step-requires-clause-flags : goal.step-requires-clause-flags
+step-requires-clause-flags g c = flags_kept c.args.table.now c.loop.table c.loop.invariant.same c.requires.walk.table.sized.flags
 
-pub restore-requires-clause-list : goal.restore-requires-clause-list
-restore-requires-clause-list g c = omega (arith, c.walk_all.ensures.same.heads, c.requires.wide, c.index.ensures.value, index_under (length c.args.trail.now.saved) c.args.own c.requires.own)
+pub step-requires-clause-own : goal.step-requires-clause-own
+step-requires-clause-own g c = c.requires.own.1
 
+pub step-requires-clause-wide : goal.step-requires-clause-wide
+step-requires-clause-wide g c = c.loop.invariant.same.heads ∙ c.requires.wide
+
+pub step-requires-clause-room : goal.step-requires-clause-room
+step-requires-clause-room g c = omega (arith, c.loop.invariant.same.load, c.loop.invariant.same.notes_room, c.requires.room)
+
+-- the list has ended
+pub returns-then-not-step-clause-table : goal.returns-then-not-step-clause-table
+returns-then-not-step-clause-table g c =
+    let ends : WalkEnds (clauses_of c.args.pool.now) c.args.trail.now.entries c.args.own c.step.new.last c.args.table.now c.step.new.table c.args.steps.now c.step.new.steps = λ done next most step flagged walk.
+    one_step (clauses_of c.args.pool.now) c.args.trail.now.entries done next c.args.own c.loop.last c.step.new.last c.args.table.now c.loop.table c.step.new.table c.step.result false (length c.args.table.now.links.nodes.items) c.loop.counter c.loop.steps c.step.new.steps most
+    c.step.ensures.walk c.if-not-step.true (omega (arith, c.loop-test.true, c.len-end.ensures)) step c.loop.invariant.same c.loop.invariant.notes flagged (c.loop.invariant.walk done next most step flagged walk) in
+    let more =
+    more_notes-trans c.args.trail.now.entries (clauses_of c.args.pool.now) (row_names c.args.table.now.rows.items) c.args.table.now.noted c.loop.table.noted c.step.new.table.noted c.loop.invariant.notes
+    (more_named c.args.trail.now.entries (clauses_of c.args.pool.now) c.args.table.now c.loop.table c.step.new.table c.loop.invariant.same c.step.ensures.notes) in
+    ended_table (clauses_of c.args.pool.now) c.args.trail.now.entries c.args.own (length c.args.trail.now.saved) c.step.new.last c.args.table.now c.step.new.table c.args.steps.now c.step.new.steps c.requires.own c.requires.wide ends
+    (same_rows-trans c.args.table.now c.loop.table c.step.new.table c.loop.invariant.same c.step.ensures.same) more
+
+pub returns-then-not-step-clause-same : goal.returns-then-not-step-clause-same
+returns-then-not-step-clause-same g c = same_rows-trans c.args.table.now c.loop.table c.step.new.table c.loop.invariant.same c.step.ensures.same
+
+pub returns-then-not-step-clause-noted : goal.returns-then-not-step-clause-noted
+returns-then-not-step-clause-noted g c = λ name noted. c.step.ensures.notes.kept name (c.loop.invariant.notes.kept name noted)
+
+pub returns-then-not-step-clause-few : goal.returns-then-not-step-clause-few
+returns-then-not-step-clause-few g c =
+    let ends : WalkEnds (clauses_of c.args.pool.now) c.args.trail.now.entries c.args.own c.step.new.last c.args.table.now c.step.new.table c.args.steps.now c.step.new.steps = λ done next most step flagged walk.
+    one_step (clauses_of c.args.pool.now) c.args.trail.now.entries done next c.args.own c.loop.last c.step.new.last c.args.table.now c.loop.table c.step.new.table c.step.result false (length c.args.table.now.links.nodes.items) c.loop.counter c.loop.steps c.step.new.steps most
+    c.step.ensures.walk c.if-not-step.true (omega (arith, c.loop-test.true, c.len-end.ensures)) step c.loop.invariant.same c.loop.invariant.notes flagged (c.loop.invariant.walk done next most step flagged walk) in
+    ended_few (clauses_of c.args.pool.now) c.args.trail.now.entries c.args.own (length c.args.trail.now.saved) c.step.new.last c.args.table.now c.step.new.table c.args.steps.now c.step.new.steps c.requires.own c.requires.wide ends c.requires.walk
+
+-- a node was met
+pub loop-preserved : goal.loop-preserved
+loop-preserved g c = record {
+  on = on_still (clauses_of c.args.pool.now) c.args.trail.now.entries c.args.own c.loop.last c.step.new.last c.loop.table c.step.new.table c.step.result c.loop.steps c.step.new.steps c.loop.invariant.on c.if-not-step.false c.step.ensures.walk c.step.ensures.notes
+      c.step.ensures.same.names;
+  walk = λ done next most step flagged walk.
+      one_step (clauses_of c.args.pool.now) c.args.trail.now.entries done next c.args.own c.loop.last c.step.new.last c.args.table.now c.loop.table c.step.new.table c.step.result true (length c.args.table.now.links.nodes.items) c.loop.counter c.loop.steps c.step.new.steps most
+      c.step.ensures.walk c.if-not-step.false (omega (arith, c.loop-test.true, c.len-end.ensures)) step c.loop.invariant.same c.loop.invariant.notes flagged (c.loop.invariant.walk done next most step flagged walk);
+  notes = more_notes-trans c.args.trail.now.entries (clauses_of c.args.pool.now) (row_names c.args.table.now.rows.items) c.args.table.now.noted c.loop.table.noted c.step.new.table.noted c.loop.invariant.notes
+      (more_named c.args.trail.now.entries (clauses_of c.args.pool.now) c.args.table.now c.loop.table c.step.new.table c.loop.invariant.same c.step.ensures.notes);
+  same = same_rows-trans c.args.table.now c.loop.table c.step.new.table c.loop.invariant.same c.step.ensures.same;
+  steps = omega (arith, c.loop.invariant.steps, c.step.ensures.steps);
+}
+
+-- all nodes were met
 pub returns-clause-table : goal.returns-clause-table
-returns-clause-table g c = λ done next step table.
-    let clauses = clauses_of c.args.pool.now in
-    let trail = c.args.trail.now.entries in
-    let l = c.args.own in
-    let before = c.args.table.now in
-    let mid = c.walk_all.new.table in
-    let after : Table = record mid { links = c.restore.new.self } in
-    let most = c.args.steps.now + length (list_at table.threaded.lists (index_of l)) in
-    let walk = c.walk_all.ensures.walk done next most step table.flagged (begun_walk clauses trail done next l before c.args.steps.now most step table (omega arith)) in
-    let under = index_under (length c.args.trail.now.saved) l c.requires.own in
-    walked_table clauses trail done next l c.walk_all.new.steps most before mid after (omega (arith, c.index.ensures.low, c.index.ensures.value)) (omega (arith, c.walk_all.ensures.same.heads, c.requires.wide, under)) table c.walk_all.ensures.same
-    c.walk_all.ensures.notes walk
-    (subst (λ p. (lists : List (List ℕ)) → AreLists mid.links.heads.items (nexts_of mid.links.nodes.items) lists → p ≢ 0 → list_at lists p ≡ [] →
-    AreLists after.links.heads.items (nexts_of after.links.nodes.items) (set (set lists p (list_at lists 0)) 0 [])) c.index.ensures.value c.restore.ensures.moved)
-    c.restore.ensures.nodes c.restore.ensures.heads refl refl
-
-pub returns-clause-same : goal.returns-clause-same
-returns-clause-same g c = same_restored c.args.table.now c.walk_all.new.table _ c.walk_all.ensures.same c.restore.ensures.nodes c.restore.ensures.heads refl refl
+returns-clause-table g c =
+    let ends : WalkEnds (clauses_of c.args.pool.now) c.args.trail.now.entries c.args.own c.loop.last c.args.table.now c.loop.table c.args.steps.now c.loop.steps = λ done next most step flagged walk.
+    walk_left (clauses_of c.args.pool.now) c.args.trail.now.entries done next c.args.own (length c.args.table.now.links.nodes.items - c.loop.counter) 0 c.loop.steps most c.loop.last c.loop.table
+    (omega (arith, c.loop-test.false, c.len-end.ensures)) (c.loop.invariant.walk done next most step flagged walk) in
+    ended_table (clauses_of c.args.pool.now) c.args.trail.now.entries c.args.own (length c.args.trail.now.saved) c.loop.last c.args.table.now c.loop.table c.args.steps.now c.loop.steps c.requires.own c.requires.wide ends c.loop.invariant.same c.loop.invariant.notes
 
 pub returns-clause-noted : goal.returns-clause-noted
-returns-clause-noted g c = c.walk_all.ensures.notes.kept
+returns-clause-noted g c = c.loop.invariant.notes.kept
 
 pub returns-clause-few : goal.returns-clause-few
-returns-clause-few g c = λ apart.
-    walk_few (clauses_of c.args.pool.now) c.args.trail.now.entries c.args.own c.args.table.now c.walk_all.new.table c.args.steps.now c.walk_all.new.steps c.requires.walk apart
-    (omega (arith, c.requires.wide, index_under (length c.args.trail.now.saved) c.args.own c.requires.own)) c.walk_all.ensures.walk
+returns-clause-few g c =
+    let ends : WalkEnds (clauses_of c.args.pool.now) c.args.trail.now.entries c.args.own c.loop.last c.args.table.now c.loop.table c.args.steps.now c.loop.steps = λ done next most step flagged walk.
+    walk_left (clauses_of c.args.pool.now) c.args.trail.now.entries done next c.args.own (length c.args.table.now.links.nodes.items - c.loop.counter) 0 c.loop.steps most c.loop.last c.loop.table
+    (omega (arith, c.loop-test.false, c.len-end.ensures)) (c.loop.invariant.walk done next most step flagged walk) in
+    ended_few (clauses_of c.args.pool.now) c.args.trail.now.entries c.args.own (length c.args.trail.now.saved) c.loop.last c.args.table.now c.loop.table c.args.steps.now c.loop.steps c.requires.own c.requires.wide ends c.requires.walk
