@@ -4,10 +4,10 @@
     bench/lookups.py [--crates FOLDER] [--looks N]
 
 A program over `clause_pool` is written into a throwaway repository beside copies of lit_base and clause_pool (of this
-checkout, or of FOLDER), proved and built there by `rt run`, and then run. It adds clauses of 3 to 12 random literals, half
-of them originals and half lemmas under names with periods up to ten million and gaps between the indexes, and then reads
-the first literal of clauses that are picked at random, 2^20 picks over and over: nanoseconds a look-up, the least of three
-rounds. `lits` goes by the name, `near` by the name and the place that the call before put right (where the crate has it);
+checkout, or of FOLDER, the crates of another), proved and built there by `rt run`, and then run. It adds clauses of 3 to 12
+random literals, half of them originals and half lemmas under names with periods up to ten million and gaps between the
+indexes, and then reads the first literal of clauses that are picked at random, 2^20 picks over and over: nanoseconds a
+look-up, the least of three rounds. `lits` goes by the name, `span` by where the clause stands, which was asked before (where the crate has `lits_in`);
 `held` asks for lemmas alone. Memory is the peak of a process that adds all clauses less that of one that adds none, a
 clause, less the four bytes of each literal; it is told by GNU `time`, which starts the process from a small one of its own (a
 process that this script started would be charged for the script's peak), and isn't measured where that isn't on the path.
@@ -27,9 +27,7 @@ MAIN = '''//! Times look-ups of clauses.
 ghost use Rattle.std.specs.Prelude.{◌≡◌, ◌<◌, All, IsSome, IsTrue, length};
 ghost use Rattle.lit_base.specs.Named.{lits_at};
 ghost use Rattle.lit_base.specs.Held.{clauses_of};
-
-use clause_pool::{Pool, Steps};
-use lit_base::{Clause, Lit, Name};
+SPAN_USEuse lit_base::{Clause, Lit, Name};
 use std::alloc::Global;
 use std::marker::Brand;
 use std::rt::Clock;
@@ -96,7 +94,7 @@ fn picks(alloc: Global, names: &[Name], count: u32) -> Result<Vec<Name>, io::Err
 
 /// Whether clauses of all these names are held.
 fn are_held(pool: &Pool, names: &[Name]) -> bool
-    ensures { IsTrue result → All (λ name. IsSome (lits_at (clauses_of pool.now) name)) names.now }
+    ensures { IsTrue result → All (λ name. IsSome (lits_at (clauses_of POOL_HELD) name)) names.now }
 {
     names.iter().all(|name| pool.held(*name))
 }
@@ -114,7 +112,7 @@ fn count_held(pool: &Pool, names: &[Name]) -> u64 {
 
 /// The sum of the first literals; nobody counts the steps.
 fn read(pool: &Pool, names: &[Name]) -> u64
-    requires { All (λ name. IsSome (lits_at (clauses_of pool.now) name)) names.now }
+    requires { All (λ name. IsSome (lits_at (clauses_of POOL_HELD) name)) names.now }
 {
     read_on::<Brand>(Blank::new(1), pool, names)
 }
@@ -123,7 +121,7 @@ fn read_on<L: Ledger>(blank: Blank, pool: &Pool, names: &[Name]) -> u64
     requires name { blank.name ≡ L.name }
     requires parts { blank.parts ≡ L.parts }
     requires some { 0 < blank.parts }
-    requires held { All (λ name. IsSome (lits_at (clauses_of pool.now) name)) names.now }
+    requires held { All (λ name. IsSome (lits_at (clauses_of POOL_HELD) name)) names.now }
 {
     let mut steps = Steps::<L>::new(blank);
     let mut sum = 0u64;
@@ -134,17 +132,14 @@ fn read_on<L: Ledger>(blank: Blank, pool: &Pool, names: &[Name]) -> u64
     }
     sum
 }
-NEAR_READ
+SPAN_READ
 /// Times look-ups of these names.
 fn time<R: Clock + Print + AllocGlobal>(rt: &R, pool: &Pool, what: &str, names: &[Name], looks: u64) -> Result<(), io::Error> {
     let alloc = rt.alloc();
     if !are_held(pool, names) {
         return Ok(());
     }
-    let mut places = Vec::new(alloc);
-    for _ in 0..names.len() {
-        places.push(0u32)?;
-    }
+    SPAN_KEEP
     let rounds = (looks / (1 + names.len() as u64)).saturating_add(1);
     for _ in 0..3 {
         let mut sum = 0u64;
@@ -160,10 +155,10 @@ fn time<R: Clock + Print + AllocGlobal>(rt: &R, pool: &Pool, what: &str, names: 
         let lits = start.elapsed(rt)?;
         let start = Instant::now(rt)?;
         for _ in 0..rounds {
-            sum = sum.wrapping_add(NEAR_CALL);
+            sum = sum.wrapping_add(SPAN_CALL);
         }
-        let near = start.elapsed(rt)?;
-        println!(rt; "{what} {} {} {} {} {sum}", rounds.wrapping_mul(names.len() as u64), held.as_nanos(), lits.as_nanos(), near.as_nanos())?;
+        let span = start.elapsed(rt)?;
+        println!(rt; "{what} {} {} {} {} {sum}", rounds.wrapping_mul(names.len() as u64), held.as_nanos(), lits.as_nanos(), span.as_nanos())?;
     }
     Ok(())
 }
@@ -207,27 +202,66 @@ abbrev pub ghosts-%s_on : goal.ghosts-%s_on
 ghosts-%s_on a = record { name = a.blank.name; parts = a.blank.parts }
 '''
 
-NEAR_READ = '''
-/// The same by the places that were put right before.
-fn read_near(pool: &Pool, names: &[Name], places: &mut [u32]) -> u64
-    requires { All (λ name. IsSome (lits_at (clauses_of pool.now) name)) names.now }
-{
-    read_near_on::<Brand>(Blank::new(1), pool, names, places)
+SPAN_USE = '''ghost use Rattle.clause_pool.specs.Spans.{span_of};
+ghost use Rattle.std.specs.Prelude.{Some};
+
+use clause_pool::{Pool, Span, Steps};
+'''
+
+SPAN_READ = '''
+/// Where the clause of a name stands.
+#[derive(Clone, Copy)]
+struct Standing {
+    name: Name,
+    span: Span,
 }
 
-fn read_near_on<L: Ledger>(blank: Blank, pool: &Pool, names: &[Name], places: &mut [u32]) -> u64
+/// Where the clauses of these names stand.
+fn standings(alloc: Global, pool: &Pool, names: &[Name]) -> Result<Vec<Standing>, io::Error> {
+    let mut standings = Vec::new(alloc);
+    for name in names {
+        if let Some(span) = pool.span(*name) {
+            standings.push(Standing { name: *name, span })?;
+        }
+    }
+    Ok(standings)
+}
+
+/// Whether the clauses stand there.
+fn do_stand(pool: &Pool, standings: &[Standing]) -> bool
+    ensures { IsTrue result → All (λ s. span_of pool.now.added s.name ≡ Some s.span) standings.now }
+{
+    standings.iter().all(|s| stands(pool, s.name, s.span))
+}
+
+/// Whether the clause of this name stands here.
+fn stands(pool: &Pool, name: Name, span: Span) -> bool
+    ensures { IsTrue result → span_of pool.now.added name ≡ Some span }
+{
+    match pool.span(name) {
+        Some(found) => found == span,
+        None => false,
+    }
+}
+
+/// The same by where the clauses stand.
+fn read_spans(pool: &Pool, standings: &[Standing]) -> u64
+    requires { All (λ s. span_of pool.now.added s.name ≡ Some s.span) standings.now }
+{
+    read_spans_on::<Brand>(Blank::new(1), pool, standings)
+}
+
+fn read_spans_on<L: Ledger>(blank: Blank, pool: &Pool, standings: &[Standing]) -> u64
     requires name { blank.name ≡ L.name }
     requires parts { blank.parts ≡ L.parts }
     requires some { 0 < blank.parts }
-    requires held { All (λ name. IsSome (lits_at (clauses_of pool.now) name)) names.now }
+    requires stand { All (λ s. span_of pool.now.added s.name ≡ Some s.span) standings.now }
 {
     let mut steps = Steps::<L>::new(blank);
     let mut sum = 0u64;
-    for i in 0..names.len() {
-        if let Some(place) = places.get_mut(i) {
-            if let Some(lit) = pool.lits_near(names[i], place, &mut steps).first() {
-                sum = sum.wrapping_add(lit.index() as u64);
-            }
+    for s in standings {
+        if let Some(lit) = pool.lits_in(s.span, &mut steps).first() {
+            sum = sum.wrapping_add(lit.index() as u64);
         }
     }
     sum
@@ -235,23 +269,40 @@ fn read_near_on<L: Ledger>(blank: Blank, pool: &Pool, names: &[Name], places: &m
 
 '''
 
+SPAN_KEEP = '''let standings = standings(alloc, pool, names)?;
+    if !do_stand(pool, &standings) {
+        return Ok(());
+    }'''
+
+# What stands for each of these in the program, over a pool that tells where a clause stands, and over an older one.
+PARTS = {
+    'SPAN_USE': (SPAN_USE, '\nuse clause_pool::{Pool, Steps};\n'),
+    'SPAN_READ': (SPAN_READ, ''),
+    'SPAN_KEEP': (SPAN_KEEP, ''),
+    'SPAN_CALL': ('read_spans(pool, &standings)', '0'),
+    'POOL_HELD': ('pool.now.held', 'pool.now'),
+}
+
 
 def build(crates):
     """The built program, in a throwaway repository."""
     folder = tempfile.mkdtemp(prefix='lookups')
     for name in ('lit_base', 'clause_pool'):
         shutil.copytree(os.path.join(crates, name), os.path.join(folder, 'crates', name), ignore=shutil.ignore_patterns('out', 'must-fail'))
+    with open(os.path.join(os.path.dirname(os.path.abspath(crates)), 'crates.txt')) as lines:
+        needs = [line for line in lines if line.split(':')[0] in ('lit_base', 'clause_pool')]
     with open(os.path.join(folder, 'crates.txt'), 'w') as out:
-        out.write('lit_base:\nclause_pool: lit_base\nlookups: lit_base clause_pool\n')
+        out.write(''.join(needs) + 'lookups: lit_base clause_pool\n')
     source = os.path.join(folder, 'crates', 'lookups', 'src')
     os.makedirs(source)
     with open(os.path.join(crates, 'clause_pool', 'src', 'pool.rt')) as pool:
-        near = 'fn lits_near' in pool.read()
-    text = MAIN.replace('NEAR_READ', NEAR_READ if near else '')
-    text = text.replace('NEAR_CALL', 'read_near(pool, names, &mut places)' if near else '0')
+        spans = 'fn lits_in' in pool.read()
+    text = MAIN
+    for part, (newer, older) in PARTS.items():
+        text = text.replace(part, newer if spans else older)
     with open(os.path.join(source, 'main.rt'), 'w') as out:
         out.write(text)
-    for function in ('read', 'read_near') if near else ('read',):
+    for function in ('read', 'read_spans') if spans else ('read',):
         ghosts = os.path.join(os.path.dirname(source), 'proofs', function)
         os.makedirs(ghosts)
         with open(os.path.join(ghosts, 'Invariants.antt'), 'w') as out:
@@ -296,8 +347,8 @@ def main():
             for line in lines[1:]:
                 what, looks, *times = line.split()[:5]
                 best[what] = [min(a, int(t) / int(looks)) for a, t in zip(best.get(what, [float('inf')] * 3), times)]
-            for what, (held, lits, near) in best.items():
-                print('  %-9s  held %6.1f ns  lits %6.1f ns  near %6.1f ns' % (what, held, lits, near))
+            for what, (held, lits, span) in best.items():
+                print('  %-9s  held %6.1f ns  lits %6.1f ns  span %6.1f ns' % (what, held, lits, span))
     finally:
         shutil.rmtree(folder)
 

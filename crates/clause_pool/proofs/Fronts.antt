@@ -53,7 +53,7 @@ clause_at-right (c ∷ rows) others n d apart is = by_test (same_name c.name n) 
 abbrev pub original_of : ℕ → List Literal → HeldClause
 original_of index lits = record { name = original index; lits = lits; uses = 0 }
 
-named_original : (n : Name) (k : ℕ) → n.period ≡ 0 → n.core ≡ 0 → same_name (original k) n ≡ (k == n.index)
+pub named_original : (n : Name) (k : ℕ) → n.period ≡ 0 → n.core ≡ 0 → same_name (original k) n ≡ (k == n.index)
 named_original n k period core =
     ap (λ p. (0 == p) && ((0 == n.core) && (k == n.index))) period ∙ ap (λ c. (0 == c) && (k == n.index)) core
 

@@ -5,6 +5,7 @@ pub mod Splits
 pub mod Following
 pub mod Linking
 pub mod Parts
+pub mod Laying
 pub mod Rows
 pub mod Placing
 pub mod Counting
@@ -15,4 +16,5 @@ pub mod Dropping
 pub mod Fronts
 pub mod Pooling
 pub mod Lookup
+pub mod Spanning
 pub mod Tallying

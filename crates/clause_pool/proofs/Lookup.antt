@@ -23,7 +23,7 @@ some_place (c ∷ older) n = by_test (same_name c.name n) (some_place older n)
     by_test true rest = refl
     by_test false rest = rest
 
-some_mapped : {X Y : Type 0} (f : X → Y) (o : Option X) → is_some (option_map f o) ≡ is_some o
+pub some_mapped : {X Y : Type 0} (f : X → Y) (o : Option X) → is_some (option_map f o) ≡ is_some o
 some_mapped f None = refl
 some_mapped f (Some x) = refl
 
@@ -50,19 +50,14 @@ behind_clause table parts held n place view behind is =
     let at = at_place-clause_at table n place is in
     (clause_of_view table parts held n view ∙ (clause_at-left table (originals_of parts) n (clause_at-behind parts n behind) ∙ sym at.0), at.1)
 
-pub behind_lits : (table : List HeldClause) (parts : List (List Literal)) (held : List HeldClause) (n : Name) (place : ℕ) (lits : List Literal) → IsView table parts held → is_front (length parts) n ≡ false →
-    place_at (row_names table) n ≡ Some place → option_map (λ c. c.lits) (at_place table place) ≡ Some lits → lits_at (clauses_of held) n ≡ Some lits
-behind_lits table parts held n place lits view behind is read =
-    lits_at-clause_at held n ∙ (ap (λ o. option_map (λ c. c.lits) o) (behind_clause table parts held n place view behind is).0 ∙ read)
-
 -- a first original is held, and stands at its index
-pub front_clause : (table : List HeldClause) (parts : List (List Literal)) (held : List HeldClause) (n : Name) (lits : List Literal) → IsView table parts held → is_front (length parts) n ≡ true →
+front_clause : (table : List HeldClause) (parts : List (List Literal)) (held : List HeldClause) (n : Name) (lits : List Literal) → IsView table parts held → is_front (length parts) n ≡ true →
     at_place parts n.index ≡ Some lits → clause_at held n ≡ Some (original_of n.index lits)
 front_clause table parts held n lits view front is =
     clause_of_view table parts held n view
     ∙ clause_at-right table (originals_of parts) n (original_of n.index lits) view.apart (clause_at-front parts n front ∙ ap (option_map (original_of n.index)) is)
 
-pub front_lits : (table : List HeldClause) (parts : List (List Literal)) (held : List HeldClause) (n : Name) (lits : List Literal) → IsView table parts held → is_front (length parts) n ≡ true →
+front_lits : (table : List HeldClause) (parts : List (List Literal)) (held : List HeldClause) (n : Name) (lits : List Literal) → IsView table parts held → is_front (length parts) n ≡ true →
     at_place parts n.index ≡ Some lits → lits_at (clauses_of held) n ≡ Some lits
 front_lits table parts held n lits view front is = lits_at-clause_at held n ∙ ap (λ o. option_map (λ c. c.lits) o) (front_clause table parts held n lits view front is)
 

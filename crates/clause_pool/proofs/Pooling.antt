@@ -10,7 +10,7 @@ use Rattle.std.specs.List.{IsDistinct}
 use Rattle.lit_base.specs.Literal.{Literal, same}
 use Rattle.lit_base.specs.Rounds.{original}
 use Rattle.lit_base.specs.Named.{same_name, lits_at}
-use Rattle.lit_base.specs.Held.{HeldClause, clause_of, clauses_of, is_before, is_original, is_among, with_clause, with_use, with_uses, without_names}
+use Rattle.lit_base.specs.Held.{HeldClause, clause_of, clauses_of, is_before, is_original, is_among, with_clause, with_use, with_uses, without_names, clauses_without}
 use Rattle.lit_base.specs.declared.name.Name.{Name}
 use Rattle.lit_base.proofs.HeldClauses.{same_name-true, same_name-itself, all-with, all-without}
 use Rattle.clause_pool.specs.Slots.{row_names, place_at, AreApart, counted_at}
@@ -215,6 +215,17 @@ pub without_rows : (names : List Name) (rows : List HeldClause) (parts : List (L
     without_names names rows ++ originals_of parts ≡ without_names names (rows ++ originals_of parts)
 without_rows names rows parts lemmas =
     ap (λ others. without_names names rows ++ others) (sym (kept_originals names parts lemmas)) ∙ sym (filter-append (λ c. not (is_among names c.name)) rows (originals_of parts))
+
+-- dropping clauses by their names drops them without their uses too
+pub clauses_of-without : (names : List Name) (rows : List HeldClause) → clauses_of (without_names names rows) ≡ clauses_without names (clauses_of rows)
+clauses_of-without names [] = refl
+clauses_of-without names (c ∷ older) =
+    cond_both (not (is_among names c.name)) (c ∷ without_names names older) (without_names names older)
+    (λ rows. clauses_of rows ≡ cond (not (is_among names c.name)) (clause_of c ∷ clauses_without names (clauses_of older)) (clauses_without names (clauses_of older)))
+    (λ kept. ap (λ others. clause_of c ∷ others) (clauses_of-without names older)
+    ∙ sym (cond-true (not (is_among names c.name)) (clause_of c ∷ clauses_without names (clauses_of older)) (clauses_without names (clauses_of older)) kept))
+    (λ dropped. clauses_of-without names older
+    ∙ sym (cond-false (not (is_among names c.name)) (clause_of c ∷ clauses_without names (clauses_of older)) (clauses_without names (clauses_of older)) dropped))
 
 -- what the pool keeps where clauses changed that keep their names and literals
 pub pool_changed : (g : HeldClause → HeldClause) → ((c : HeldClause) → (g c).name ≡ c.name) → ((held : List HeldClause) → clauses_of (map g held) ≡ clauses_of held) → (rows : List HeldClause) →

@@ -2,14 +2,16 @@
 use Rattle.std.proofs.Common.{◌≡◌, ℕ, ◌+◌, ◌<◌, ◌≤◌, ◌==◌, List, [], ◌∷◌, ◌++◌, length, take, drop, reverse, get_or, map, refl, ap, sym, ◌∙◌, subst, arith}
 use Rattle.std.specs.Prelude.{Some, slice_range}
 use Rattle.std.proofs.lemmas.Bool.{cond-true, cond-false, eq-eqb, ne_eqb}
-use Rattle.std.proofs.lemmas.List.{length-append, length-reverse, map-append}
+use Rattle.std.proofs.lemmas.List.{length-append, length-map, length-reverse, map-append, take-map, get_or-map}
 use mathlib.Core.List.{reverse-cons}
 use Rattle.lit_base.specs.Literal.{Literal}
 use Rattle.lit_base.specs.Held.{HeldClause}
 use Rattle.clause_pool.specs.declared.slot.Slot.{Slot}
 use Rattle.clause_pool.specs.Arena.{end_of, parts_of, AreEnds, IsArena, at_place}
 use Rattle.clause_pool.specs.Slots.{ends_of, rows_of, clauses_in, slot_names, row_names, unlinked}
+use Rattle.clause_pool.specs.Spans.{lits_of}
 use Rattle.clause_pool.proofs.Splits.{split, older_length}
+use Rattle.clause_pool.proofs.Laying.{IsSpanRead, span_read_at}
 
 -- a change of each item goes through the turning round
 pub map-reverse : {X Y : Type 0} (f : X → Y) (items : List X) → reverse (map f items) ≡ map f (reverse items)
@@ -27,6 +29,11 @@ rows_length literals (s ∷ older) = let rest = rows_length literals older in om
 pub names_in : (literals : List Literal) (slots : List Slot) → row_names (clauses_in literals slots) ≡ slot_names slots
 names_in literals [] = refl
 names_in literals (s ∷ older) = ap (λ names. s.name ∷ names) (names_in literals older)
+
+-- with the literals of its part
+pub lits_of-rows : (literals : List Literal) (slots : List Slot) → lits_of (clauses_in literals slots) ≡ parts_of literals (ends_of slots)
+lits_of-rows literals [] = refl
+lits_of-rows literals (s ∷ older) = ap (λ parts. slice_range literals (end_of (ends_of older)) s.end ∷ parts) (lits_of-rows literals older)
 
 ends_without_links : (slots : List Slot) → ends_of (map unlinked slots) ≡ ends_of slots
 ends_without_links [] = refl
@@ -103,21 +110,25 @@ is_row literals items place d arena inside =
 pub inside_slots : (literals : List Literal) (items : List Slot) (value : List HeldClause) (place : ℕ) → clauses_in literals (reverse items) ≡ value → place < length value → place < length items
 inside_slots literals items value place view inside = omega (arith, inside, ap length view, rows_length literals (reverse items), length-reverse items)
 
--- what the steps of reading say together
-pub record IsRead (value : List HeldClause) (arena : List Literal) (place start : ℕ) (s : Slot) : Type 0 where
-  pub order : start ≤ s.end
-  pub within : s.end ≤ length arena
-  pub is : at_place value place ≡ Some (row_in arena s start)
+-- what is read at a place is its clause
+pub row_read : (literals : List Literal) (items : List Slot) (value : List HeldClause) (place : ℕ) (s : Slot) → IsArena literals (ends_of (reverse items)) → clauses_in literals (reverse items) ≡ value →
+    place < length value → s ≡ get_or items place s → at_place value place ≡ Some (row_in literals s (end_of (ends_of (reverse (take place items)))))
+row_read literals items value place s arena view inside at =
+    let row = subst (IsRow literals items place) (sym at) (is_row literals items place s arena (inside_slots literals items value place view inside)) in
+    ap (λ rows. at_place rows place) (sym view) ∙ row.is
 
-pub row_read : (literals arena : List Literal) (items read : List Slot) (value : List HeldClause) (place start : ℕ) (s : Slot) → IsArena literals (ends_of (reverse items)) →
-    clauses_in literals (reverse items) ≡ value → arena ≡ literals → read ≡ items → place < length value → start ≡ end_of (ends_of (reverse (take place read))) → s ≡ get_or items place s →
-    IsRead value arena place start s
-row_read literals arena items read value place start s full view arenas reads inside starts at =
-    let row = subst (IsRow literals items place) (sym at) (is_row literals items place s full (inside_slots literals items value place view inside)) in
-    let from : start ≡ end_of (ends_of (reverse (take place items))) = starts ∙ ap (λ xs. end_of (ends_of (reverse (take place xs)))) reads in
-    record {
-      order = omega (arith, row.order, from);
-      within = omega (arith, row.within, ap length arenas);
-      is = ap (λ rows. at_place rows place) (sym view)
-          ∙ (row.is ∙ (ap (λ begin. Some (row_in literals s begin)) (sym from) ∙ ap (λ xs. Some (row_in xs s start)) (sym arenas)));
-    }
+-- where the literals of a slot stand
+pub slot_span : (literals : List Literal) (items read : List Slot) (value : List HeldClause) (place start : ℕ) (s : Slot) → IsArena literals (ends_of (reverse items)) →
+    clauses_in literals (reverse items) ≡ value → read ≡ items → place < length value → start ≡ end_of (ends_of (reverse (take place read))) → s ≡ get_or items place s →
+    IsSpanRead literals (lits_of value) place start s.end
+slot_span literals items read value place start s arena view reads inside starts at =
+    let ends : reverse (map (λ t. t.end) items) ≡ ends_of (reverse items) = map-reverse (λ t. t.end) items in
+    let within = inside_slots literals items value place view inside in
+    let from : start ≡ end_of (reverse (take place (map (λ t. t.end) items))) =
+    starts
+    ∙ (ap (λ xs. end_of (ends_of (reverse (take place xs)))) reads
+    ∙ ap end_of (sym (map-reverse (λ t. t.end) (take place items)) ∙ ap reverse (sym (take-map (λ t. t.end) place items)))) in
+    let below : place < length (map (λ t. t.end) items) = omega (arith, within, length-map items (λ t. t.end)) in
+    let end : s.end ≡ get_or (map (λ t. t.end) items) place s.end = ap (λ t. t.end) at ∙ sym (get_or-map (λ t. t.end) items place s s.end within) in
+    subst (λ parts. IsSpanRead literals parts place start s.end) (ap (parts_of literals) ends ∙ (sym (lits_of-rows literals (reverse items)) ∙ ap lits_of view))
+    (span_read_at literals (map (λ t. t.end) items) (map (λ t. t.end) items) place start s.end (subst (IsArena literals) (sym ends) arena) below refl from end)

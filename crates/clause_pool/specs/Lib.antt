@@ -5,3 +5,4 @@ pub mod Arena
 pub mod Slots
 pub mod Links
 pub mod Pooled
+pub mod Spans

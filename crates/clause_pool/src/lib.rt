@@ -2,6 +2,7 @@
 #![tactic(auto)]
 
 pub use pool::Pool;
+pub use span::Span;
 pub use steps::Steps;
 pub use tally::Tally;
 
@@ -11,6 +12,7 @@ mod originals;
 mod packing;
 mod pool;
 mod slot;
+mod span;
 mod steps;
 mod table;
 mod tally;

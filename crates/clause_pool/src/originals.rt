@@ -1,7 +1,9 @@
-ghost use Rattle.std.specs.Prelude.{◌≡◌, ◌+◌, ◌^◌, ◌<◌, ◌≤◌, ◌↔◌, [], ◌∷◌, length, reverse, take, IsTrue, Some, OnOk, OnErr};
-ghost use Rattle.clause_pool.specs.Arena.{at_place, end_of, literals_in};
+ghost use Rattle.std.specs.Prelude.{◌≡◌, ◌+◌, ◌^◌, ◌<◌, ◌≤◌, ◌↔◌, [], ◌∷◌, length, reverse, take, slice_range, IsTrue, Some, OnOk, OnErr};
+ghost use Rattle.clause_pool.specs.Arena.{end_of, literals_in};
+ghost use Rattle.clause_pool.specs.Spans.{span_at, laid};
 
 use crate::arena::part;
+use crate::span::Span;
 use lit_base::{Lit, NoMemory};
 use std::alloc::Global;
 use std::marker::Model;
@@ -70,16 +72,37 @@ impl Originals {
         Ok(())
     }
 
-    /// The literals of the clause with this index.
-    pub(crate) fn lits(&self, index: usize) -> &[Lit]
-        requires { index < length self.now }
-        ensures { at_place self.now index ≡ Some result.now }
+    /// The number of their literals.
+    pub(crate) fn width(&self) -> usize
+        ensures value { result ≡ literals_in self.now }
+        ensures few { result < 2 ^ 63 }
     {
-        part(
-            &self.literals,
-            start_of(&self.ends, index),
-            self.ends[index] as usize,
-        )
+        let _ = &self.ends;
+        // for the checker alone: a slice has fewer than 2^63
+        let literals: &[Lit] = &self.literals;
+        literals.len()
+    }
+
+    /// Where the literals of the clause with this index stand in those of all, laid end to end.
+    pub(crate) fn span(&self, index: usize) -> Span
+        requires { index < length self.now }
+        ensures { span_at self.now index ≡ Some result }
+    {
+        let _ = &self.literals;
+        Span {
+            start: start_of(&self.ends, index),
+            end: self.ends[index] as usize,
+        }
+    }
+
+    /// A part of all literals, laid end to end.
+    pub(crate) fn part(&self, from: usize, to: usize) -> &[Lit]
+        requires order { from ≤ to }
+        requires within { to ≤ literals_in self.now }
+        ensures { result.now ≡ slice_range (laid self.now) from to }
+    {
+        let _ = &self.ends;
+        part(&self.literals, from, to)
     }
 }
 

@@ -1,16 +1,18 @@
-ghost use Rattle.std.specs.Prelude.{◌≡◌, ◌+◌, ◌<◌, ◌≤◌, ◌^◌, ◌==◌, [], ◌∷◌, ◌++◌, length, reverse, map, take, vec_capacity, vec_len, option_map, is_some, IsSome, IfOk, Some, OnOk, OnErr};
+ghost use Rattle.std.specs.Prelude.{◌≡◌, ◌+◌, ◌<◌, ◌≤◌, ◌^◌, ◌==◌, [], ◌∷◌, ◌++◌, length, reverse, map, take, slice_range, vec_capacity, vec_len, option_map, is_some, IsSome, IfOk, Some, OnOk, OnErr};
 ghost use Rattle.std.specs.Option.{ForSome};
 ghost use Rattle.lit_base.specs.Held.{with_uses, without_names, volume_of};
-ghost use Rattle.clause_pool.specs.Arena.{at_place, end_of};
+ghost use Rattle.clause_pool.specs.Arena.{at_place, end_of, literals_in};
 ghost use Rattle.clause_pool.specs.Slots.{ends_of, row_names, place_at, unlinked, without_count, counted_at, AreApart};
 ghost use Rattle.clause_pool.specs.Links.{IsLinked};
 ghost use Rattle.clause_pool.specs.Uses.{cleared};
+ghost use Rattle.clause_pool.specs.Spans.{span_at, laid, lits_of};
 ghost use Rattle.clause_pool.specs.Tallies.{tallies_but};
 
 use crate::arena::{part, weight_of};
 use crate::chains::{begin_chain, find, link_all};
 use crate::packing::{flag, pack};
 use crate::slot::Slot;
+use crate::span::Span;
 use crate::tally::{Tally, tallies_of};
 use lit_base::{Lit, Name, NoMemory};
 use std::alloc::Global;
@@ -83,31 +85,37 @@ impl Table {
         find(&self.heads, &self.slots, name)
     }
 
-    /// The place of the clause with this name, which there is, sought first where it is believed to be. That is put right.
-    pub(crate) fn find_near(&self, name: Name, believed: &mut u32) -> usize
-        requires apart { AreApart (row_names self.now) }
-        requires some { IsSome (place_at (row_names self.now) name) }
+    /// The place of the clause with this name, which there is.
+    pub(crate) fn place(&self, name: Name) -> usize
+        requires { IsSome (place_at (row_names self.now) name) }
         ensures { place_at (row_names self.now) name ≡ Some result }
     {
-        let near = *believed as usize;
-        if near < self.slots.len() && self.slots[near].name == name {
-            return near;
-        }
-        let found = self.find(name).unwrap();
-        *believed = u32::try_from(found).unwrap_or(u32::MAX);
-        found
+        self.find(name).unwrap()
     }
 
-    /// The literals of the clause at this place.
-    pub(crate) fn lits(&self, place: usize) -> &[Lit]
+    /// Where the literals of the clause at this place stand in those of all, laid end to end.
+    pub(crate) fn span(&self, place: usize) -> Span
         requires { place < length self.now }
-        ensures { option_map (λ c. c.lits) (at_place self.now place) ≡ Some result.now }
+        ensures value { span_at (lits_of self.now) place ≡ Some result }
+        ensures order { result.start ≤ result.end }
+        ensures few { result.end < 2 ^ 63 }
     {
-        part(
-            &self.literals,
-            start_of(&self.slots, place),
-            self.slots[place].end,
-        )
+        // for the checker alone: a slice has fewer than 2^63
+        let _literals: &[Lit] = &self.literals;
+        Span {
+            start: start_of(&self.slots, place),
+            end: self.slots[place].end,
+        }
+    }
+
+    /// A part of all literals, laid end to end.
+    pub(crate) fn part(&self, from: usize, to: usize) -> &[Lit]
+        requires order { from ≤ to }
+        requires within { to ≤ literals_in (lits_of self.now) }
+        ensures { result.now ≡ slice_range (laid (lits_of self.now)) from to }
+    {
+        let _ = &self.slots;
+        part(&self.literals, from, to)
     }
 
     /// How often the clause at this place was a hint.

@@ -56,9 +56,9 @@ impl Analyser {
         conflict: Name,
     ) -> Result<Lesson, NoMemory>
         requires variables { length trail.now.saved ≡ self.old }
-        requires conflict { IsConflict (lits_at (clauses_of pool.now)) trail.now.entries conflict }
-        requires fits { FitsClauses (lits_at (clauses_of pool.now)) trail.now.entries }
-        ensures lesson { IfOk result (λ lesson. lesson ≡ lesson_of (lits_at (clauses_of pool.now)) trail.now.entries conflict) }
+        requires conflict { IsConflict (lits_at (clauses_of pool.now.held)) trail.now.entries conflict }
+        requires fits { FitsClauses (lits_at (clauses_of pool.now.held)) trail.now.entries }
+        ensures lesson { IfOk result (λ lesson. lesson ≡ lesson_of (lits_at (clauses_of pool.now.held)) trail.now.entries conflict) }
         ensures variables { self.new ≡ self.old }
     {
         self.walk.walk(pool, trail, conflict);
@@ -77,9 +77,9 @@ pub fn analyse(
     trail: &Trail,
     conflict: Name,
 ) -> Result<Lesson, NoMemory>
-    requires conflict { IsConflict (lits_at (clauses_of pool.now)) trail.now.entries conflict }
-    requires fits { FitsClauses (lits_at (clauses_of pool.now)) trail.now.entries }
-    ensures { IfOk result (λ lesson. lesson ≡ lesson_of (lits_at (clauses_of pool.now)) trail.now.entries conflict) }
+    requires conflict { IsConflict (lits_at (clauses_of pool.now.held)) trail.now.entries conflict }
+    requires fits { FitsClauses (lits_at (clauses_of pool.now.held)) trail.now.entries }
+    ensures { IfOk result (λ lesson. lesson ≡ lesson_of (lits_at (clauses_of pool.now.held)) trail.now.entries conflict) }
 {
     let mut analyser = Analyser::make(alloc, trail.variables())?;
     analyser.analyse(pool, trail, conflict)

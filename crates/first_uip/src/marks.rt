@@ -131,11 +131,11 @@ impl Marks {
         resolved: bool,
     )
         requires trail { IsTrail trail.now }
-        requires held { IsReasonBelow (vec_len self.old.flags) (lits_at (clauses_of pool.now)) entry.now.reason }
+        requires held { IsReasonBelow (vec_len self.old.flags) (lits_at (clauses_of pool.now.held)) entry.now.reason }
         requires counted { IsCounted level (before place trail.now.entries) self.old }
         ensures room { vec_len self.new.flags ≡ vec_len self.old.flags }
         ensures flags { (v : ℕ) → is_flagged self.new.flags.items v ≡
-            (is_marked (resolved_variables (lits_at (clauses_of pool.now)) resolved entry.now.reason) v || is_flagged self.old.flags.items v) }
+            (is_marked (resolved_variables (lits_at (clauses_of pool.now.held)) resolved entry.now.reason) v || is_flagged self.old.flags.items v) }
         ensures kept { GoesOn self.old.marked.items self.new.marked.items }
         ensures counted { IsCounted level (before place trail.now.entries) self.new }
     {

@@ -9,8 +9,8 @@ use std::sync::ledger::{Blank, Ledger};
 
 /// The literals of a held clause; nobody counts this read.
 pub(crate) fn lits_of(pool: &Pool, name: Name) -> &[Lit]
-    requires { IsSome (lits_at (clauses_of pool.now) name) }
-    ensures { lits_at (clauses_of pool.now) name ≡ Some result.now }
+    requires { IsSome (lits_at (clauses_of pool.now.held) name) }
+    ensures { lits_at (clauses_of pool.now.held) name ≡ Some result.now }
 {
     read::<Brand>(Blank::new(1), pool, name)
 }
@@ -20,8 +20,8 @@ fn read<L: Ledger>(blank: Blank, pool: &Pool, name: Name) -> &[Lit]
     requires name { blank.name ≡ L.name }
     requires parts { blank.parts ≡ L.parts }
     requires some { 0 < blank.parts }
-    requires held { IsSome (lits_at (clauses_of pool.now) name) }
-    ensures { lits_at (clauses_of pool.now) name ≡ Some result.now }
+    requires held { IsSome (lits_at (clauses_of pool.now.held) name) }
+    ensures { lits_at (clauses_of pool.now.held) name ≡ Some result.now }
 {
     let mut steps = Steps::<L>::new(blank);
     pool.lits(name, &mut steps)

@@ -33,8 +33,8 @@ fn no(variable: u32) -> Lit
 
 /// Adds the clause of these literals under the name of an original.
 fn add(alloc: Global, pool: &mut Pool, index: u32, lits: &[Lit]) -> Result<(), NoMemory>
-    requires { lits_at (clauses_of pool.old) (original index) ≡ None }
-    ensures { OnOk result (pool.new ≡ with_clause (record { name = original index; lits = distinct lits.now; uses = 0 }) pool.old) }
+    requires { lits_at (clauses_of pool.old.held) (original index) ≡ None }
+    ensures { OnOk result (pool.new.held ≡ with_clause (record { name = original index; lits = distinct lits.now; uses = 0 }) pool.old.held) }
 {
     let clause = Clause::of(alloc, lits)?;
     pool.add(Name::original(index), clause.lits())
@@ -42,7 +42,7 @@ fn add(alloc: Global, pool: &mut Pool, index: u32, lits: &[Lit]) -> Result<(), N
 
 /// The pool of three clauses, named as originals.
 fn pool_of(alloc: Global, first: &[Lit], second: &[Lit], third: &[Lit]) -> Result<Pool, NoMemory>
-    ensures { IfOk result (λ pool. clauses_of pool ≡ named_from 0 (distinct first.now ∷ distinct second.now ∷ distinct third.now ∷ [])) }
+    ensures { IfOk result (λ pool. clauses_of pool.held ≡ named_from 0 (distinct first.now ∷ distinct second.now ∷ distinct third.now ∷ [])) }
 {
     let mut pool = Pool::new(alloc);
     add(alloc, &mut pool, 0, first)?;
@@ -59,7 +59,7 @@ fn pool_of_four(
     third: &[Lit],
     fourth: &[Lit],
 ) -> Result<Pool, NoMemory>
-    ensures { IfOk result (λ pool. clauses_of pool ≡
+    ensures { IfOk result (λ pool. clauses_of pool.held ≡
         named_from 0 (distinct first.now ∷ distinct second.now ∷ distinct third.now ∷ distinct fourth.now ∷ [])) }
 {
     let mut pool = Pool::new(alloc);

@@ -61,13 +61,13 @@ impl Walk {
     /// marked but by reasons of level 0, which are marked before the places are sorted.
     pub(crate) fn walk(&mut self, pool: &Pool, trail: &Trail, conflict: Name)
         requires idle { IsIdle (length trail.now.saved) self.old }
-        requires conflict { IsConflict (lits_at (clauses_of pool.now)) trail.now.entries conflict }
-        requires fits { FitsClauses (lits_at (clauses_of pool.now)) trail.now.entries }
+        requires conflict { IsConflict (lits_at (clauses_of pool.now.held)) trail.now.entries conflict }
+        requires fits { FitsClauses (lits_at (clauses_of pool.now.held)) trail.now.entries }
         ensures flags { vec_len self.new.marks.flags ≡ length trail.now.saved + 1 }
         ensures counted { (level : ℕ) × (place : ℕ) × IsCounted level (before place trail.now.entries) self.new.marks }
         ensures room { HasRoom (length trail.now.saved) self.new }
-        ensures gathered { IsGathered (level_now trail.now.entries) self.new (trace (lits_at (clauses_of pool.now))
-            (level_now trail.now.entries) trail.now.entries (first_trace (lits_at (clauses_of pool.now)) conflict)) }
+        ensures gathered { IsGathered (level_now trail.now.entries) self.new (trace (lits_at (clauses_of pool.now.held))
+            (level_now trail.now.entries) trail.now.entries (first_trace (lits_at (clauses_of pool.now.held)) conflict)) }
     {
         self.begin();
         let level = trail.level();
@@ -95,7 +95,7 @@ impl Walk {
 
     /// Marks the variables of the conflict, and makes it the first hint.
     fn cite(&mut self, pool: &Pool, trail: &Trail, level: u32, name: Name)
-        requires held { IsHeldBelow (vec_len self.old.marks.flags) (lits_at (clauses_of pool.now) name) }
+        requires held { IsHeldBelow (vec_len self.old.marks.flags) (lits_at (clauses_of pool.now.held) name) }
         requires counted { IsCounted level trail.now.entries self.old.marks }
         requires room { vec_len self.old.hints < vec_capacity self.old.hints }
         ensures flags { vec_len self.new.marks.flags ≡ vec_len self.old.marks.flags }
@@ -105,7 +105,7 @@ impl Walk {
         ensures lits { self.new.lits ≡ self.old.lits }
         ensures places { self.new.places ≡ self.old.places }
         ensures traces { (t : Trace) → Traces level self.old t →
-            Traces level self.new (cited (lits_at (clauses_of pool.now)) name t) }
+            Traces level self.new (cited (lits_at (clauses_of pool.now.held)) name t) }
     {
         self.marks
             .mark_all(trail, level, trail.len(), lits_of(pool, name));
@@ -177,7 +177,7 @@ impl Walk {
         requires trail { IsTrail trail.now }
         requires next { before (place + 1) trail.now.entries ≡ entry.now ∷ before place trail.now.entries }
         requires marked { is_flagged self.old.marks.flags.items entry.now.lit.variable ≡ true }
-        requires reason { IsReasonBelow (vec_len self.old.marks.flags) (lits_at (clauses_of pool.now)) entry.now.reason }
+        requires reason { IsReasonBelow (vec_len self.old.marks.flags) (lits_at (clauses_of pool.now.held)) entry.now.reason }
         requires counted { IsCounted level (before (place + 1) trail.now.entries) self.old.marks }
         requires spare { HasSpare 1 self.old }
         ensures flags { vec_len self.new.marks.flags ≡ vec_len self.old.marks.flags }
@@ -185,7 +185,7 @@ impl Walk {
         ensures counted { IsCounted level (before place trail.now.entries) self.new.marks }
         ensures grows { Grows self.old self.new }
         ensures traces { (t : Trace) → Traces level self.old t →
-            Traces level self.new (first_step (lits_at (clauses_of pool.now)) level (before (place + 1) trail.now.entries) t) }
+            Traces level self.new (first_step (lits_at (clauses_of pool.now.held)) level (before (place + 1) trail.now.entries) t) }
     {
         self.marks.meet(level, entry);
         let resolved = self.marks.is_resolved(level, entry);
@@ -199,7 +199,7 @@ impl Walk {
         requires trail { IsTrail trail.now }
         requires within { place < length trail.now.entries }
         requires flags { length trail.now.saved < vec_len self.old.marks.flags }
-        requires reasons { AreReasonsBelow (vec_len self.old.marks.flags) (lits_at (clauses_of pool.now)) trail.now.entries }
+        requires reasons { AreReasonsBelow (vec_len self.old.marks.flags) (lits_at (clauses_of pool.now.held)) trail.now.entries }
         requires counted { IsCounted level (before (place + 1) trail.now.entries) self.old.marks }
         requires spare { HasSpare 1 self.old }
         ensures flags { vec_len self.new.marks.flags ≡ vec_len self.old.marks.flags }
@@ -207,7 +207,7 @@ impl Walk {
         ensures counted { IsCounted level (before place trail.now.entries) self.new.marks }
         ensures grows { Grows self.old self.new }
         ensures traces { (t : Trace) → Traces level self.old t →
-            Traces level self.new (first_step (lits_at (clauses_of pool.now)) level (before (place + 1) trail.now.entries) t) }
+            Traces level self.new (first_step (lits_at (clauses_of pool.now.held)) level (before (place + 1) trail.now.entries) t) }
     {
         let entry = trail.entry(place);
         if self.marks.is_marked(entry.lit.var()) {
@@ -219,7 +219,7 @@ impl Walk {
     /// and gives the number of older entries.
     fn walk_level(&mut self, pool: &Pool, trail: &Trail, level: u32) -> usize
         requires flags { length trail.now.saved < vec_len self.old.marks.flags }
-        requires reasons { AreReasonsBelow (vec_len self.old.marks.flags) (lits_at (clauses_of pool.now)) trail.now.entries }
+        requires reasons { AreReasonsBelow (vec_len self.old.marks.flags) (lits_at (clauses_of pool.now.held)) trail.now.entries }
         requires counted { IsCounted level trail.now.entries self.old.marks }
         requires spare { HasSpare (length trail.now.entries) self.old }
         ensures within { result ≤ length trail.now.entries }
@@ -230,7 +230,7 @@ impl Walk {
         ensures spare { HasSpare result self.new }
         ensures room { IsSameRoom self.old self.new }
         ensures walked { (t : Trace) → Traces level self.old t →
-            IsWalked (lits_at (clauses_of pool.now)) level result trail.now.entries self.new t }
+            IsWalked (lits_at (clauses_of pool.now.held)) level result trail.now.entries self.new t }
     {
         for place in (0..trail.len()).rev() {
             if self.marks.left == 0 {
@@ -245,12 +245,12 @@ impl Walk {
     /// where that entry is of level 0.
     fn find(&mut self, pool: &Pool, trail: &Trail, level: u32, place: usize, var: u32)
         requires trail { IsTrail trail.now }
-        requires reasons { AreReasonsBelow (vec_len self.old.marks.flags) (lits_at (clauses_of pool.now)) trail.now.entries }
+        requires reasons { AreReasonsBelow (vec_len self.old.marks.flags) (lits_at (clauses_of pool.now.held)) trail.now.entries }
         requires counted { IsCounted level (before place trail.now.entries) self.old.marks }
         requires room { vec_len self.old.places < vec_capacity self.old.places }
         ensures flags { vec_len self.new.marks.flags ≡ vec_len self.old.marks.flags }
         ensures marks { (v : ℕ) → is_flagged self.new.marks.flags.items v ≡
-            (is_marked (root_variables (lits_at (clauses_of pool.now)) (entry_of (before place trail.now.entries) var)) v
+            (is_marked (root_variables (lits_at (clauses_of pool.now.held)) (entry_of (before place trail.now.entries) var)) v
             || is_flagged self.old.marks.flags.items v) }
         ensures kept { GoesOn self.old.marks.marked.items self.new.marks.marked.items }
         ensures counted { IsCounted level (before place trail.now.entries) self.new.marks }
@@ -277,8 +277,8 @@ impl Walk {
     /// Each variable is marked once, so there are no more of them than flags. The list grows while it is walked over.
     fn find_older(&mut self, pool: &Pool, trail: &Trail, level: u32, place: usize)
         requires trail { IsTrail trail.now }
-        requires fits { FitsClauses (lits_at (clauses_of pool.now)) trail.now.entries }
-        requires reasons { AreReasonsBelow (vec_len self.old.marks.flags) (lits_at (clauses_of pool.now)) trail.now.entries }
+        requires fits { FitsClauses (lits_at (clauses_of pool.now.held)) trail.now.entries }
+        requires reasons { AreReasonsBelow (vec_len self.old.marks.flags) (lits_at (clauses_of pool.now.held)) trail.now.entries }
         requires counted { IsCounted level (before place trail.now.entries) self.old.marks }
         requires none_left { self.old.marks.left ≡ 0 }
         requires empty { (vec_len self.old.places ≡ 0) × (self.old.places.items ≡ []) }
@@ -286,7 +286,7 @@ impl Walk {
         ensures flags { vec_len self.new.marks.flags ≡ vec_len self.old.marks.flags }
         ensures counted { IsCounted level (before place trail.now.entries) self.new.marks }
         ensures marks { (t : Trace) → AreFlagsOf t.marked self.old.marks.flags.items →
-            AreFlagsOf (trace (lits_at (clauses_of pool.now)) level (before place trail.now.entries) t).marked self.new.marks.flags.items }
+            AreFlagsOf (trace (lits_at (clauses_of pool.now.held)) level (before place trail.now.entries) t).marked self.new.marks.flags.items }
         ensures found { AreFound (before place trail.now.entries) self.new }
         ensures room { IsSameRoom self.old self.new }
         ensures gathered { IsSameGathered self.old self.new }

@@ -318,7 +318,7 @@ ready_attached variables clauses before trail done t after shorts are ready same
   table = ready.table;
   apart = ready.apart;
   short = are.short;
-  known = known_after before trail t after shorts same.names clauses are.known ready.covered;
+  known = known_after before trail t after shorts (ap row_names same.rows) clauses are.known ready.covered;
   fresh_found = tt;
   fresh_apart = are.fresh_apart;
   fresh_new = tt;
@@ -328,8 +328,7 @@ ready_attached variables clauses before trail done t after shorts are ready same
 pub roomy_after : (variables : ℕ) (clauses : List NamedClause) (trail : List Entry) (t after : Table) (shorts room : ℕ) → AreRoomy variables t shorts room 0 → IsReady variables clauses trail trail after →
     HaveSameRows t after → AreRoomy variables after shorts room 0
 roomy_after variables clauses trail t after shorts room roomy ready same =
-    let rows : length after.rows.items ≡ length t.rows.items =
-    sym (length-map after.rows.items (λ (r : Row). r.name)) ∙ (ap length same.names ∙ length-map t.rows.items (λ (r : Row). r.name)) in
+    let rows : length after.rows.items ≡ length t.rows.items = ap length same.rows in
     record {
       sized = ready.table.sized;
       flagged = ready.table.flagged;

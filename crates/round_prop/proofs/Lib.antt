@@ -42,3 +42,5 @@ pub mod Parts
 pub mod Playing
 pub mod Placed
 pub mod InPlace
+pub mod Spans
+pub mod Respanned

@@ -27,7 +27,7 @@ pub one_step : (clauses : List NamedClause) (trail done next : List Entry) (l : 
 one_step clauses trail done next l last newest first t after more b nodes counter steps now most tells is inside step rows notes flagged walk =
     let e : nodes - counter ≡ nodes - (counter + 1) + 1 = omega (arith, inside) in
     subst (λ c. IsWalk clauses trail done next l (if c then nodes - (counter + 1) else 0) now most newest after) is
-    (tells done next (nodes - (counter + 1)) most step (subst (λ ns. AreFlagged ns t.noted.flags.items t.noted.notes.items) (sym rows.names) (notes.flagged flagged))
+    (tells done next (nodes - (counter + 1)) most step (subst (λ rs. AreFlagged (row_names rs) t.noted.flags.items t.noted.notes.items) (sym rows.rows) (notes.flagged flagged))
     (subst (λ k. IsWalk clauses trail done next l k steps most last t) e walk))
 
 -- the numbers of the loop
@@ -35,7 +35,7 @@ pub walk_left : (clauses : List NamedClause) (trail done next : List Entry) (l :
 walk_left clauses trail done next l left other steps most last t is walk = subst (λ k. IsWalk clauses trail done next l k steps most last t) is walk
 
 pub more_named : (trail : List Entry) (clauses : List NamedClause) (first t after : Table) → HaveSameRows first t → HasMoreNotes trail clauses (row_names t.rows.items) t.noted after.noted → HasMoreNotes trail clauses (row_names first.rows.items) t.noted after.noted
-more_named trail clauses first t after rows more = subst (λ ns. HasMoreNotes trail clauses ns t.noted after.noted) rows.names more
+more_named trail clauses first t after rows more = subst (λ rs. HasMoreNotes trail clauses (row_names rs) t.noted after.noted) rows.rows more
 
 -- what a walk tells that has ended
 abbrev pub WalkEnds : List NamedClause → List Entry → Literal → ℕ → Table → Table → ℕ → ℕ → Type 0

@@ -11,7 +11,7 @@ use Rattle.lit_base.specs.Trail.{level_now, is_true, is_false}
 use Rattle.lit_base.specs.Backjump.{cut, with_saved, saved_after}
 use Rattle.lit_base.specs.Rounds.{NamedClause, Propagated, conflict_of, round_by, round, rounds, is_last}
 use Rattle.lit_base.specs.Named.{same_name, lits_at}
-use Rattle.lit_base.specs.Held.{HeldClause, clauses_of, is_among}
+use Rattle.lit_base.specs.Held.{clauses_of, is_among}
 use Rattle.lit_base.specs.Fits.{FindsAll}
 use Rattle.lit_base.specs.Quiet.{IsQuiet, AreQuiet}
 use Rattle.lit_base.specs.declared.trail.Entry.{Entry}
@@ -20,10 +20,12 @@ use Rattle.lit_base.proofs.FixedPoint.{with_units_front}
 use Rattle.lit_base.proofs.HeldClauses.{same_name-true}
 use Rattle.lit_base.proofs.Known.{same_itself}
 use Rattle.lit_base.proofs.NameOrder.{rising_found}
+use Rattle.clause_pool.specs.Spans.{PoolState}
 use Rattle.trail_book.specs.TrailState.{TrailState, decided, jumped}
 use Rattle.round_prop.specs.Attached.{RoundsState, IsAttached, IsAttachedTo, IsSettled}
 use Rattle.round_prop.specs.Linked.{IsPart, IsOther}
 use Rattle.round_prop.specs.Pairs.{pairs_of}
+use Rattle.round_prop.specs.Spanned.{IsPlacedIn}
 use Rattle.round_prop.specs.Propagation.{MayPropagate, HasPropagated}
 use Rattle.round_prop.specs.declared.found.Found.{Found}
 use Rattle.round_prop.proofs.LinkSteps.{true_quiet, guarded_quiet}
@@ -31,12 +33,13 @@ use Rattle.round_prop.proofs.OlderParts.{part_itself, part_of_part, nested}
 use Rattle.round_prop.proofs.Seen.{seen_all}
 
 -- a decision is one entry more that wasn't seen
-pub may-decided : (r : RoundsState) (held : List HeldClause) (trail : TrailState) (l : Literal) → MayPropagate r held trail → MayPropagate r held (decided l trail)
-may-decided r held trail l before =
+pub may-decided : (r : RoundsState) (pool : PoolState) (trail : TrailState) (l : Literal) → MayPropagate r pool trail → MayPropagate r pool (decided l trail)
+may-decided r pool trail l before =
     let b = before.attached in
     let e : Entry = record { lit = l; level = level_now trail.entries + 1; reason = None } in
     record {
       attached = record { fresh = b.fresh; seen = b.seen; newer = e ∷ b.newer; attached = b.attached; older = ap (λ t. e ∷ t) b.older };
+      placed = before.placed;
       variables = before.variables;
       within = before.within;
     }
@@ -60,37 +63,38 @@ quiet_settled trail fresh [] quiet = tt
 quiet_settled trail fresh (c ∷ others) quiet = (λ new. quiet.0, quiet_settled trail fresh others quiet.1)
 
 -- after a jump that was told, where no clause is unit or falsified or no entry is left
-pub may-cut : (held : List HeldClause) (trail after : TrailState) (level : ℕ) (r s : RoundsState) → after ≡ jumped level trail →
+pub may-cut : (pool : PoolState) (trail after : TrailState) (level : ℕ) (r s : RoundsState) → after ≡ jumped level trail →
     ((attached : List NamedClause) (fresh : List Name) (seen more : List Entry) → IsAttached r attached fresh seen → seen ≡ more ++ after.entries → IsSettled after.entries attached fresh →
     IsAttached s attached fresh after.entries) →
     ((attached : List NamedClause) (fresh : List Name) (seen more : List Entry) → IsAttached r attached fresh seen → after.entries ≡ more ++ seen → IsAttached s attached fresh seen) →
-    s.variables ≡ r.variables → (after.entries ≡ []) ⊎ AreQuiet after.entries (clauses_of held) → MayPropagate r held trail → MayPropagate s held after
-may-cut held trail after level r s is told above same settled before =
+    ((added : List NamedClause) → IsPlacedIn r added → IsPlacedIn s added) → s.variables ≡ r.variables → (after.entries ≡ []) ⊎ AreQuiet after.entries (clauses_of pool.held) → MayPropagate r pool trail → MayPropagate s pool after
+may-cut pool trail after level r s is told above places same settled before =
     let saved : length after.saved ≡ length trail.saved = ap (λ (t : TrailState). length t.saved) is ∙ length-saved_after level trail.entries trail.saved in
     let part : IsPart trail.entries after.entries = subst (λ (t : TrailState). IsPart trail.entries t.entries) (sym is) (cut_part level trail.entries) in
     record {
       attached = by_parts (nested trail.entries before.attached.seen after.entries (record { newer = before.attached.newer; front = before.attached.older }) part);
+      placed = places pool.added before.placed;
       variables = same ∙ (before.variables ∙ sym saved);
-      within = subst (λ n. All (λ (c : NamedClause). All (IsWithin n) c.lits) (clauses_of held)) (sym saved) before.within;
+      within = subst (λ n. All (λ (c : NamedClause). All (IsWithin n) c.lits) (clauses_of pool.held)) (sym saved) before.within;
     }
   where
-    calm : (after.entries ≡ []) ⊎ AreQuiet after.entries (clauses_of held) → IsSettled after.entries (clauses_of held) before.attached.fresh
+    calm : (after.entries ≡ []) ⊎ AreQuiet after.entries (clauses_of pool.held) → IsSettled after.entries (clauses_of pool.held) before.attached.fresh
     calm (inl none) = inl none
-    calm (inr quiet) = inr (quiet_settled after.entries before.attached.fresh (clauses_of held) quiet)
+    calm (inr quiet) = inr (quiet_settled after.entries before.attached.fresh (clauses_of pool.held) quiet)
 
-    by_parts : IsPart before.attached.seen after.entries ⊎ IsPart after.entries before.attached.seen → IsAttachedTo s (clauses_of held) after.entries
+    by_parts : IsPart before.attached.seen after.entries ⊎ IsPart after.entries before.attached.seen → IsAttachedTo s (clauses_of pool.held) after.entries
     by_parts (inl rest) = record {
       fresh = before.attached.fresh;
       seen = after.entries;
       newer = [];
-      attached = told (clauses_of held) before.attached.fresh before.attached.seen rest.newer before.attached.attached rest.front (calm settled);
+      attached = told (clauses_of pool.held) before.attached.fresh before.attached.seen rest.newer before.attached.attached rest.front (calm settled);
       older = refl;
     }
     by_parts (inr rest) = record {
       fresh = before.attached.fresh;
       seen = before.attached.seen;
       newer = rest.newer;
-      attached = above (clauses_of held) before.attached.fresh before.attached.seen rest.newer before.attached.attached rest.front;
+      attached = above (clauses_of pool.held) before.attached.fresh before.attached.seen rest.newer before.attached.attached rest.front;
       older = rest.front;
     }
 
@@ -167,11 +171,11 @@ attached_found : (r : RoundsState) (clauses : List NamedClause) (trail : List En
 unfolding IsAttached
 attached_found r clauses trail before = rising_found clauses before.attached.are.rising
 
-pub all_quiet : (r : RoundsState) (held : List HeldClause) (trail : TrailState) (left : List Entry) (names : List Name) → MayPropagate r held trail →
-    All (λ c. IsTrue (is_among names c.name)) (clauses_of held) →
-    ((name : Name) (lits : List Literal) → IsTrue (is_among names name) → lits_at (clauses_of held) name ≡ Some lits → IsQuiet left lits) → AreQuiet left (clauses_of held)
-all_quiet r held trail left names before named quiet =
-    named_quiet left names (clauses_of held) quiet (clauses_of held) (attached_found r (clauses_of held) trail.entries before.attached) named
+pub all_quiet : (r : RoundsState) (pool : PoolState) (trail : TrailState) (left : List Entry) (names : List Name) → MayPropagate r pool trail →
+    All (λ c. IsTrue (is_among names c.name)) (clauses_of pool.held) →
+    ((name : Name) (lits : List Literal) → IsTrue (is_among names name) → lits_at (clauses_of pool.held) name ≡ Some lits → IsQuiet left lits) → AreQuiet left (clauses_of pool.held)
+all_quiet r pool trail left names before named quiet =
+    named_quiet left names (clauses_of pool.held) quiet (clauses_of pool.held) (attached_found r (clauses_of pool.held) trail.entries before.attached) named
 
 -- propagation adds to the trail
 round_part : (clauses : List NamedClause) (trail : List Entry) (o : Option Name) → IsPart (round_by clauses trail o).trail trail
@@ -187,12 +191,12 @@ rounds_part (suc most) clauses trail =
     (λ more. part_of_part (rounds most clauses r.trail).trail r.trail trail (rounds_part most clauses r.trail) one)
 
 -- so where it left the trail as long as it was, and all was seen, nothing was read
-pub nothing_read : (held : List HeldClause) (before after : TrailState) (r s : RoundsState) (found : Found) (steps now : ℕ) → HasPropagated held before s after found →
-    length after.entries ≡ length before.entries → IsAttached r (clauses_of held) [] before.entries →
-    ((fresh : List Name) (seen newer : List Entry) → IsAttached r (clauses_of held) fresh seen → after.entries ≡ newer ++ seen → now ≤ steps + pairs_of (clauses_of held) newer + length fresh) →
+pub nothing_read : (pool : PoolState) (before after : TrailState) (r s : RoundsState) (found : Found) (steps now : ℕ) → HasPropagated pool before s after found →
+    length after.entries ≡ length before.entries → IsAttached r (clauses_of pool.held) [] before.entries →
+    ((fresh : List Name) (seen newer : List Entry) → IsAttached r (clauses_of pool.held) fresh seen → after.entries ≡ newer ++ seen → now ≤ steps + pairs_of (clauses_of pool.held) newer + length fresh) →
     steps ≤ now → now ≡ steps
-nothing_read held before after r s found steps now told long seen few grows =
+nothing_read pool before after r s found steps now told long seen few grows =
     let is = ap (λ (t : TrailState). t.entries) told.trail in
-    let part = rounds_part (length before.saved + 1) (clauses_of held) before.entries in
+    let part = rounds_part (length before.saved + 1) (clauses_of pool.held) before.entries in
     let same : after.entries ≡ before.entries = seen_all part.newer after.entries before.entries (is ∙ part.front) (omega (arith, long)) in
     let most : now ≤ steps + 0 + 0 = few [] before.entries [] seen same in omega (arith, most, grows)

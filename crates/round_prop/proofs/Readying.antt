@@ -43,7 +43,7 @@ pub ready_same : (variables : ℕ) (clauses : List NamedClause) (trail done afte
 ready_same variables clauses trail done after-trail after-done before after ready rows table covered = record {
   table = table;
   covered = covered;
-  apart = subst AreNamedApart (sym rows.names) ready.apart;
+  apart = subst (λ rs. AreNamedApart (row_names rs)) (sym rows.rows) ready.apart;
   wide = rows.heads ∙ ready.wide;
   room = omega (arith, ready.room, rows.load, rows.notes_room);
 }
@@ -52,14 +52,14 @@ pub gathered_ready : (variables : ℕ) (clauses : List NamedClause) (trail done 
     IsTable clauses trail trail after → ((name : Name) → IsNoted before.noted.notes.items name → IsNoted after.noted.notes.items name) → IsReady variables clauses trail trail after
 gathered_ready variables clauses trail done before after ready rows table kept =
     ready_same variables clauses trail done trail trail before after ready rows table
-    (subst (λ names. AllByRecursion (IsCovered trail after.noted.notes.items names) clauses) (sym rows.names)
+    (subst (λ rs. AllByRecursion (IsCovered trail after.noted.notes.items (row_names rs)) clauses) (sym rows.rows)
     (covered_more trail before.noted.notes.items after.noted.notes.items (row_names before.rows.items) clauses kept ready.covered))
 
 -- its notes are sorted
 module _ (t : Table) (noted : Noted) (permuted : IsPermutation t.noted.notes.items noted.notes.items) (flags : noted.flags ≡ t.noted.flags) (room : vec_capacity noted.notes ≡ vec_capacity t.noted.notes) where
   pub same_sorted : HaveSameRows t (record t { noted = noted })
   same_sorted = record {
-    names = refl;
+    rows = refl;
     heads = refl;
     nodes = refl;
     flags = ap (λ (v : Vec Bool Global). length v.items) flags;
@@ -100,7 +100,7 @@ module _ (t : Table) (noted : Noted) (trail after : List Entry) (is : after ≡ 
     (notes_room : vec_capacity noted.notes ≡ vec_capacity t.noted.notes) (flags_room : vec_capacity noted.flags ≡ vec_capacity t.noted.flags) where
   pub same_settled : HaveSameRows t (record t { noted = noted })
   same_settled = record {
-    names = refl;
+    rows = refl;
     heads = refl;
     nodes = refl;
     flags = ap length flags ∙ length_after after t.noted.notes.items t.noted.flags.items;

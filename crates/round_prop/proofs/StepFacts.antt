@@ -1,8 +1,7 @@
 -- A step of a walk, by what its calls tell.
-use Rattle.std.proofs.Common.{◌≡◌, ◌≢◌, ℕ, ◌+◌, ◌*◌, ◌/◌, ◌<◌, ◌≤◌, ◌==◌, Bool, true, false, List, ◌∷◌, length, get_or, set, All, refl, ap, sym, ◌∙◌, subst, arith, Vec, Global, vec_len, vec_capacity}
+use Rattle.std.proofs.Common.{◌≡◌, ◌≢◌, ℕ, ◌+◌, ◌*◌, ◌/◌, ◌<◌, ◌≤◌, ◌==◌, Bool, true, false, List, ◌∷◌, length, get_or, set, All, refl, ap, sym, ◌∙◌, subst, arith, vec_capacity}
 use Rattle.std.specs.Prelude.{Option, Some, None, slice_get}
-use Rattle.std.specs.Vec.{with_items}
-use Rattle.std.proofs.lemmas.List.{length-map, length-set, with_items_is}
+use Rattle.std.proofs.lemmas.List.{length-map, length-set}
 use Rattle.std.proofs.lemmas.Option.{slice_get-get_or}
 use Rattle.lit_base.specs.Literal.{Literal, same, IsWithin}
 use Rattle.lit_base.specs.Rounds.{NamedClause}
@@ -23,12 +22,6 @@ use Rattle.round_prop.specs.Walking.{HasPair, IsWalkOf, IsWalk, IsInWalk}
 use Rattle.round_prop.proofs.TableSteps.{own_list, node_inside, other_inside, half_inside, own_pair, lit_read, pair_inside, index_under, stayed, left_list, walk_emptied}
 use Rattle.round_prop.proofs.InPlace.{in_place-own}
 use Rattle.round_prop.proofs.LinkSteps.{not_both}
-
--- rows that were lent out as a slice
-pub rows_lent : (rows : Vec Row Global) (lent back : List Row) → lent ≡ rows.items → length lent ≡ vec_len rows → row_names back ≡ row_names lent → row_names (with_items rows back).items ≡ row_names rows.items
-rows_lent rows lent back is long names =
-    let e = ap length names in
-    ap row_names (with_items_is rows back (omega (arith, e, long, length-map back (λ (r : Row). r.name), length-map lent (λ (r : Row). r.name)))) ∙ (names ∙ ap row_names is)
 
 -- what is told of the node behind the last one that was met
 abbrev pub Behind : Table → ℕ → ℕ → Option ℕ → Type 0
@@ -146,33 +139,33 @@ step_over clauses trail done next l variables left steps most last t p o walk wi
     (fronted clauses trail done next l left steps most last t p o None walk real place (omega (arith, wide, index_under variables l own)) is behind)
 
 -- and no row is lost
-pub same_stayed : (trail : List Entry) (clauses : List NamedClause) (old : Table) (rows : Vec Row Global) (noted : Noted) → row_names rows.items ≡ row_names old.rows.items → vec_capacity rows ≡ vec_capacity old.rows →
-    HasMoreNotes trail clauses (row_names old.rows.items) old.noted noted → HaveSameRows old (record old { rows = rows; noted = noted })
-same_stayed trail clauses old rows noted names room more = record {
-  names = names;
+pub same_stayed : (trail : List Entry) (clauses : List NamedClause) (old : Table) (noted : Noted) →
+    HasMoreNotes trail clauses (row_names old.rows.items) old.noted noted → HaveSameRows old (record old { noted = noted })
+same_stayed trail clauses old noted more = record {
+  rows = refl;
   heads = refl;
   nodes = refl;
   flags = more.flags;
   load = more.load;
-  rows_room = room;
+  rows_room = refl;
   nodes_room = refl;
   notes_room = more.notes_room;
   flags_room = more.flags_room;
 }
 
-pub same_left : (trail : List Entry) (clauses : List NamedClause) (old : Table) (rows : Vec Row Global) (links mid : Links) (noted : Noted) (n : ℕ) (l : Literal) → row_names rows.items ≡ row_names old.rows.items → vec_capacity rows ≡ vec_capacity old.rows →
+pub same_left : (trail : List Entry) (clauses : List NamedClause) (old : Table) (links mid : Links) (noted : Noted) (n : ℕ) (l : Literal) →
     lits_of mid.nodes.items ≡ lits_of old.links.nodes.items → length mid.heads.items ≡ length old.links.heads.items → vec_capacity mid.nodes ≡ vec_capacity old.links.nodes → lits_of links.nodes.items ≡ set (lits_of mid.nodes.items) n l →
     length links.heads.items ≡ length mid.heads.items → vec_capacity links.nodes ≡ vec_capacity mid.nodes →
-    HasMoreNotes trail clauses (row_names old.rows.items) old.noted noted → HaveSameRows old (record { rows = rows; links = links; noted = noted })
-same_left trail clauses old rows links mid noted n l names room mid_lits mid_heads mid_room lits put_heads put_room more = record {
-  names = names;
+    HasMoreNotes trail clauses (row_names old.rows.items) old.noted noted → HaveSameRows old (record { rows = old.rows; links = links; noted = noted })
+same_left trail clauses old links mid noted n l mid_lits mid_heads mid_room lits put_heads put_room more = record {
+  rows = refl;
   heads = put_heads ∙ mid_heads;
   nodes =
       let e = ap length lits in let f = ap length mid_lits in
       omega (arith, e, f, length-set (lits_of mid.nodes.items) n l, length-map links.nodes.items (λ (m : Node). m.lit), length-map mid.nodes.items (λ (m : Node). m.lit), length-map old.links.nodes.items (λ (m : Node). m.lit));
   flags = more.flags;
   load = more.load;
-  rows_room = room;
+  rows_room = refl;
   nodes_room = put_room ∙ mid_room;
   notes_room = more.notes_room;
   flags_room = more.flags_room;

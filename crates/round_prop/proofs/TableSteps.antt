@@ -35,7 +35,7 @@ use Rattle.round_prop.proofs.WalkSteps.{walk_begins, walk_met, walk_threads, wal
 -- same rows, and more notes
 pub same_rows-trans : (a b c : Table) → HaveSameRows a b → HaveSameRows b c → HaveSameRows a c
 same_rows-trans a b c one two = record {
-  names = two.names ∙ one.names;
+  rows = two.rows ∙ one.rows;
   heads = two.heads ∙ one.heads;
   nodes = two.nodes ∙ one.nodes;
   flags = two.flags ∙ one.flags;
@@ -47,7 +47,7 @@ same_rows-trans a b c one two = record {
 }
 
 pub same_rows-refl : (a : Table) → HaveSameRows a a
-same_rows-refl a = record { names = refl; heads = refl; nodes = refl; flags = refl; load = omega arith; rows_room = refl; nodes_room = refl; notes_room = refl; flags_room = refl }
+same_rows-refl a = record { rows = refl; heads = refl; nodes = refl; flags = refl; load = omega arith; rows_room = refl; nodes_room = refl; notes_room = refl; flags_room = refl }
 
 pub more_notes-trans : (trail : List Entry) (clauses : List NamedClause) (names : List Name) (a b c : Noted) → HasMoreNotes trail clauses names a b → HasMoreNotes trail clauses names b c → HasMoreNotes trail clauses names a c
 more_notes-trans trail clauses names a b c one two = record {
@@ -110,12 +110,12 @@ pub walked_table : (clauses : List NamedClause) (trail done next : List Entry) (
     IsTable clauses trail done before → HaveSameRows before after → HasMoreNotes trail clauses (row_names before.rows.items) before.noted after.noted → IsWalk clauses trail done next l 0 steps most last after → IsTable clauses trail next after
 walked_table clauses trail done next l steps most last before after real inside table rows more walk = record {
   sized = record {
-    nodes = let c = ap length rows.names in omega (arith, c, rows.nodes, table.sized.nodes, length-map after.rows.items (λ (r : Row). r.name), length-map before.rows.items (λ (r : Row). r.name));
-    flags = let c = ap length rows.names in omega (arith, c, rows.flags, table.sized.flags, length-map after.rows.items (λ (r : Row). r.name), length-map before.rows.items (λ (r : Row). r.name));
+    nodes = let c = ap length rows.rows in omega (arith, c, rows.nodes, table.sized.nodes);
+    flags = let c = ap length rows.rows in omega (arith, c, rows.flags, table.sized.flags);
   };
   threaded = walk_threads clauses trail done next l steps most last after.links.heads.items after.links.nodes.items (row_names after.rows.items) after.noted.notes.items walk real inside;
   rows = walk_rows clauses trail done next l steps most last after.links.heads.items after.links.nodes.items (row_names after.rows.items) after.noted.notes.items walk real inside;
-  flagged = subst (λ names. AreFlagged names after.noted.flags.items after.noted.notes.items) (sym rows.names) (more.flagged table.flagged);
+  flagged = subst (λ rs. AreFlagged (row_names rs) after.noted.flags.items after.noted.notes.items) (sym rows.rows) (more.flagged table.flagged);
   sound = more.sound table.sound;
 }
 
@@ -404,7 +404,7 @@ index_under n l most = by_sign l.positive refl
 -- as many flags as rows
 pub flags_kept : (before after : Table) → HaveSameRows before after → length before.noted.flags.items ≡ length before.rows.items → length after.noted.flags.items ≡ length after.rows.items
 flags_kept before after rows sized =
-    let e = ap length rows.names in omega (arith, e, rows.flags, sized, length-map before.rows.items (λ (r : Row). r.name), length-map after.rows.items (λ (r : Row). r.name))
+    let e = ap length rows.rows in omega (arith, e, rows.flags, sized)
 
 -- a walk has read no more than there are clauses with the literal
 pub walk_few : (clauses : List NamedClause) (trail : List Entry) (l : Literal) (last : ℕ) (before after : Table) (steps now : ℕ) → MayWalk clauses trail l before → AreNamedApart (row_names before.rows.items) → 1 ≤ index_of l → index_of l < length before.links.heads.items →

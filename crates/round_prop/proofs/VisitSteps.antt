@@ -1,7 +1,6 @@
 -- A row after its clause was looked at.
-use Rattle.std.proofs.Common.{◌≡◌, ◌⊎◌, ℕ, ◌<◌, Bool, true, false, ◌&&◌, List, length, get_or, set, refl, inl, inr, ap, sym, ◌∙◌, subst}
+use Rattle.std.proofs.Common.{◌≡◌, ◌⊎◌, ℕ, ◌<◌, Bool, true, false, ◌&&◌, List, length, get_or, refl, inl, inr, ap, sym, ◌∙◌, subst}
 use Rattle.std.specs.Prelude.{Option, Some, None, option_map, nat_lt, slice_get}
-use Rattle.std.proofs.lemmas.List.{map-set, get_or-map, set-get_or}
 use Rattle.std.proofs.lemmas.Option.{same_Some, slice_get-map, slice_get_read, slice_get-get_or}
 use Rattle.lit_base.specs.Literal.{Literal}
 use Rattle.lit_base.specs.Trail.{is_true}
@@ -104,26 +103,12 @@ note_sound clauses trail name own other lits row has found none =
 pub name_read : (rows : List Row) (i : ℕ) (r : Row) → i < length rows → r ≡ get_or rows i r → slice_get (row_names rows) i ≡ Some r.name
 name_read rows i r inside is = slice_get-map (λ (row : Row). row.name) rows i ∙ ap (λ (o : Option Row). option_map (λ (row : Row). row.name) o) (slice_get_read rows (length rows) i r refl inside is)
 
--- the names stay, where the advice of a row changes
-pub names_kept : (rows : List Row) (i : ℕ) (r : Row) (place : ℕ) → i < length rows → r ≡ get_or rows i r → row_names (set rows i (record r { place = place })) ≡ row_names rows
-names_kept rows i r place inside is =
-    let names = row_names rows in
-    map-set (λ (row : Row). row.name) rows i (record r { place = place })
-    ∙ (ap (λ n. set names i n) (ap (λ (row : Row). row.name) is ∙ sym (get_or-map (λ (row : Row). row.name) rows i r r.name inside)) ∙ set-get_or names i r.name)
-
 -- the same of a row that is read by its place
 pub named_at : (rows : List Row) (i : ℕ) (d : Row) → i < length rows → slice_get (row_names rows) i ≡ Some (get_or rows i d).name
 named_at rows i d inside = slice_get-map (λ (row : Row). row.name) rows i ∙ ap (λ (o : Option Row). option_map (λ (row : Row). row.name) o) (slice_get-get_or rows i d inside)
 
 pub name_is : (rows : List Row) (i : ℕ) (d : Row) (name : Name) → i < length rows → slice_get (row_names rows) i ≡ Some name → (get_or rows i d).name ≡ name
 name_is rows i d name inside named = same_Some (get_or rows i d).name name (sym (named_at rows i d inside) ∙ named)
-
-pub names_kept_at : (rows : List Row) (i : ℕ) (d : Row) (place : ℕ) → i < length rows → row_names (set rows i (record { name = (get_or rows i d).name; place = place })) ≡ row_names rows
-names_kept_at rows i d place inside =
-    let names = row_names rows in
-    let name = (get_or rows i d).name in
-    map-set (λ (row : Row). row.name) rows i (record { name = name; place = place })
-    ∙ (ap (λ n. set names i n) (sym (get_or-map (λ (row : Row). row.name) rows i d name inside)) ∙ set-get_or names i name)
 
 -- notes that came in by a visit
 pub more_by_added : (trail : List Entry) (clauses : List NamedClause) (names : List Name) (before after : Noted) (note : Note) → IsAdded before.flags.items before.notes.items after.flags.items after.notes.items note →

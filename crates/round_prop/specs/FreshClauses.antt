@@ -14,7 +14,7 @@ found_lits (Some lits) = lits
 
 -- a fresh clause, with the literals that the pool gave when it was attached
 abbrev pub clause_of_fresh : Fresh → NamedClause
-clause_of_fresh f = record { name = f.name; lits = found_lits (lits_at (clauses_of f.pool.value) f.name) }
+clause_of_fresh f = record { name = f.name; lits = found_lits (lits_at (clauses_of f.pool.value.held) f.name) }
 
 -- fresh clauses, the newest first, where the newest stands last
 abbrev pub clauses_of_fresh : List Fresh → List NamedClause

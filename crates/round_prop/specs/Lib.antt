@@ -9,5 +9,6 @@ pub mod FreshClauses
 pub mod Shorts
 pub mod Room
 pub mod Attached
+pub mod Spanned
 pub mod Propagation
 pub mod Removal

@@ -69,9 +69,9 @@ pub record IsReady (variables : ℕ) (clauses : List NamedClause) (trail done : 
   pub wide : length t.links.heads.items ≡ 2 * variables + 2
   pub room : load_of t.noted.notes.items t.noted.flags.items ≤ vec_capacity t.noted.notes
 
--- the tables have the same rows, but for the places where their clauses are believed to stand, and the same room
+-- the tables have the same rows, and the same room
 pub record HaveSameRows (before after : Table) : Type 0 where
-  pub names : row_names after.rows.items ≡ row_names before.rows.items
+  pub rows : after.rows.items ≡ before.rows.items
   pub heads : length after.links.heads.items ≡ length before.links.heads.items
   pub nodes : length after.links.nodes.items ≡ length before.links.nodes.items
   pub flags : length after.noted.flags.items ≡ length before.noted.flags.items

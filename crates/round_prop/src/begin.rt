@@ -9,12 +9,13 @@ ghost use Rattle.lit_base.specs.declared.name.Name.{Name};
 ghost use Rattle.round_prop.specs.Attached.{AreAttachedIn, AreRoomy};
 ghost use Rattle.round_prop.specs.Noting.{IsNoted, load_of};
 ghost use Rattle.round_prop.specs.FreshClauses.{fresh_names};
+ghost use Rattle.round_prop.specs.Spanned.{AreSpanned};
 ghost use Rattle.round_prop.specs.Shorts.{short_lits, note_of_short};
 
 use crate::fresh::Fresh;
 use crate::note::Note;
 use crate::noted::Noted;
-use crate::row::Row;
+use crate::row::{find_row, lits_of};
 use crate::short::Short;
 use crate::table::Table;
 use clause_pool::{Pool, Steps};
@@ -34,12 +35,13 @@ pub(crate) fn begin_fresh<L: Ledger>(
     trail: &Trail,
     steps: &mut Steps<L>,
 )
-    requires attached { (done : List Entry) × AreAttachedIn (clauses_of pool.now) trail.now.entries done table.old shorts.old.items (fresh_names fresh.old.items) }
+    requires attached { (done : List Entry) × AreAttachedIn (clauses_of pool.now.held) trail.now.entries done table.old shorts.old.items (fresh_names fresh.old.items) }
     requires roomy { AreRoomy (length trail.now.saved) table.old (vec_len shorts.old) (vec_capacity shorts.old) (vec_len fresh.old) }
-    requires within { All (λ c. All (IsWithin (length trail.now.saved)) c.lits) (clauses_of pool.now) }
-    ensures attached { (done : List Entry) → AreAttachedIn (clauses_of pool.now) trail.now.entries done table.old shorts.old.items (fresh_names fresh.old.items) →
-        AreAttachedIn (clauses_of pool.now) trail.now.entries done table.new shorts.new.items [] }
+    requires within { All (λ c. All (IsWithin (length trail.now.saved)) c.lits) (clauses_of pool.now.held) }
+    ensures attached { (done : List Entry) → AreAttachedIn (clauses_of pool.now.held) trail.now.entries done table.old shorts.old.items (fresh_names fresh.old.items) →
+        AreAttachedIn (clauses_of pool.now.held) trail.now.entries done table.new shorts.new.items [] }
     ensures roomy { AreRoomy (length trail.now.saved) table.new (vec_len shorts.new) (vec_capacity shorts.new) 0 }
+    ensures spanned { AreSpanned pool.now.added table.old.rows.items → AreSpanned pool.now.added table.new.rows.items }
     ensures none { fresh.new.items ≡ [] }
     ensures steps { steps.new ≡ steps.old + vec_len fresh.old }
 {
@@ -67,25 +69,26 @@ fn begin<L: Ledger>(
     name: Name,
     steps: &mut Steps<L>,
 )
-    requires attached { (done : List Entry) × (fresh : List Name) × AreAttachedIn (clauses_of pool.now) trail.now.entries done table.old shorts.old.items (name ∷ fresh) }
+    requires attached { (done : List Entry) × (fresh : List Name) × AreAttachedIn (clauses_of pool.now.held) trail.now.entries done table.old shorts.old.items (name ∷ fresh) }
     requires roomy { (fresh : ℕ) × AreRoomy (length trail.now.saved) table.old (vec_len shorts.old) (vec_capacity shorts.old) (fresh + 1) }
-    requires within { All (λ c. All (IsWithin (length trail.now.saved)) c.lits) (clauses_of pool.now) }
+    requires within { All (λ c. All (IsWithin (length trail.now.saved)) c.lits) (clauses_of pool.now.held) }
     ensures attached { (done : List Entry) (fresh : List Name) →
-        AreAttachedIn (clauses_of pool.now) trail.now.entries done table.old shorts.old.items (name ∷ fresh) →
-        AreAttachedIn (clauses_of pool.now) trail.now.entries done table.new shorts.new.items fresh }
+        AreAttachedIn (clauses_of pool.now.held) trail.now.entries done table.old shorts.old.items (name ∷ fresh) →
+        AreAttachedIn (clauses_of pool.now.held) trail.now.entries done table.new shorts.new.items fresh }
     ensures roomy { (fresh : ℕ) → AreRoomy (length trail.now.saved) table.old (vec_len shorts.old) (vec_capacity shorts.old) (fresh + 1) →
         AreRoomy (length trail.now.saved) table.new (vec_len shorts.new) (vec_capacity shorts.new) fresh }
+    ensures spanned { AreSpanned pool.now.added table.old.rows.items → AreSpanned pool.now.added table.new.rows.items }
     ensures steps { steps.new ≡ steps.old + 1 }
 {
     // for the checker alone: that the literals of each clause are distinct, which the pool's volume tells
     let _ = pool.volume();
-    let mut place = u32::MAX;
-    let lits = pool.lits_near(name, &mut place, steps);
+    let row = find_row(pool, name);
+    let lits = lits_of(pool, row, steps);
     if lits.len() < 2 {
         put_aside(table, shorts, name, only(lits));
         return;
     }
-    table.link_first(trail, Row { name, place }, lits);
+    table.link_first(trail, row, lits);
 }
 
 /// The literal of a short clause; None of the empty one.

@@ -2,7 +2,7 @@
 #![tactic(auto)]
 
 pub use found::Found;
-pub use laws::{law_attached_follow_held, law_attached_is_determined};
+pub use laws::{law_attached_follow_held, law_attached_is_determined, law_places_stay_at_an_add};
 pub use rounds::Rounds;
 
 mod begin;

@@ -11,6 +11,7 @@ ghost use Rattle.round_prop.specs.Found.{found_of};
 ghost use Rattle.round_prop.specs.Noting.{with_noted};
 ghost use Rattle.round_prop.specs.Pairs.{pairs_of};
 ghost use Rattle.round_prop.specs.Readied.{oldest, IsReady, HaveSameRows};
+ghost use Rattle.round_prop.specs.Spanned.{AreSpanned};
 ghost use Rattle.round_prop.specs.declared.note.Note.{Note};
 
 use crate::found::Found;
@@ -30,15 +31,16 @@ pub(crate) fn run_rounds<L: Ledger>(
     seen: usize,
     steps: &mut Steps<L>,
 ) -> Found
-    requires ready { IsReady (length trail.old.saved) (clauses_of pool.now) trail.old.entries (oldest seen trail.old.entries) table.old }
+    requires ready { IsReady (length trail.old.saved) (clauses_of pool.now.held) trail.old.entries (oldest seen trail.old.entries) table.old }
     requires seen { seen ≤ length trail.old.entries }
-    requires within { All (λ c. All (IsWithin (length trail.old.saved)) c.lits) (clauses_of pool.now) }
-    ensures trail { trail.new ≡ record trail.old { entries = (propagate (length trail.old.saved) (clauses_of pool.now) trail.old.entries).trail } }
-    ensures found { result ≡ found_of (propagate (length trail.old.saved) (clauses_of pool.now) trail.old.entries).conflict }
-    ensures ready { IsReady (length trail.old.saved) (clauses_of pool.now) trail.new.entries trail.new.entries table.new }
+    requires spanned { AreSpanned pool.now.added table.old.rows.items }
+    requires within { All (λ c. All (IsWithin (length trail.old.saved)) c.lits) (clauses_of pool.now.held) }
+    ensures trail { trail.new ≡ record trail.old { entries = (propagate (length trail.old.saved) (clauses_of pool.now.held) trail.old.entries).trail } }
+    ensures found { result ≡ found_of (propagate (length trail.old.saved) (clauses_of pool.now.held) trail.old.entries).conflict }
+    ensures ready { IsReady (length trail.old.saved) (clauses_of pool.now.held) trail.new.entries trail.new.entries table.new }
     ensures rows { HaveSameRows table.old table.new }
     ensures steps { steps.old ≤ steps.new }
-    ensures few { (newer : List Entry) → trail.new.entries ≡ newer ++ oldest seen trail.old.entries → steps.new ≤ steps.old + pairs_of (clauses_of pool.now) newer }
+    ensures few { (newer : List Entry) → trail.new.entries ≡ newer ++ oldest seen trail.old.entries → steps.new ≤ steps.old + pairs_of (clauses_of pool.now.held) newer }
 {
     // for the checker alone: that the pool's clauses stand in order and are found, which its volume tells
     let _ = pool.volume();
@@ -80,17 +82,18 @@ fn run_round<L: Ledger>(
     seen: usize,
     steps: &mut Steps<L>,
 ) -> Option<Name>
-    requires ready { IsReady (length trail.old.saved) (clauses_of pool.now) trail.old.entries (oldest seen trail.old.entries) table.old }
+    requires ready { IsReady (length trail.old.saved) (clauses_of pool.now.held) trail.old.entries (oldest seen trail.old.entries) table.old }
     requires seen { seen ≤ length trail.old.entries }
-    requires within { All (λ c. All (IsWithin (length trail.old.saved)) c.lits) (clauses_of pool.now) }
-    requires finds { FindsAll (lits_at (clauses_of pool.now)) (clauses_of pool.now) }
-    requires rising { AreRisingBy (λ (c : NamedClause). c.name) (clauses_of pool.now) }
-    ensures conflict { result ≡ (round (clauses_of pool.now) trail.old.entries).conflict }
-    ensures trail { trail.new ≡ record trail.old { entries = (round (clauses_of pool.now) trail.old.entries).trail } }
-    ensures ready { IsReady (length trail.old.saved) (clauses_of pool.now) trail.new.entries trail.old.entries table.new }
+    requires spanned { AreSpanned pool.now.added table.old.rows.items }
+    requires within { All (λ c. All (IsWithin (length trail.old.saved)) c.lits) (clauses_of pool.now.held) }
+    requires finds { FindsAll (lits_at (clauses_of pool.now.held)) (clauses_of pool.now.held) }
+    requires rising { AreRisingBy (λ (c : NamedClause). c.name) (clauses_of pool.now.held) }
+    ensures conflict { result ≡ (round (clauses_of pool.now.held) trail.old.entries).conflict }
+    ensures trail { trail.new ≡ record trail.old { entries = (round (clauses_of pool.now.held) trail.old.entries).trail } }
+    ensures ready { IsReady (length trail.old.saved) (clauses_of pool.now.held) trail.new.entries trail.old.entries table.new }
     ensures same { HaveSameRows table.old table.new }
     ensures steps { steps.old ≤ steps.new }
-    ensures few { steps.new + pairs_of (clauses_of pool.now) (oldest seen trail.old.entries) ≤ steps.old + pairs_of (clauses_of pool.now) trail.old.entries }
+    ensures few { steps.new + pairs_of (clauses_of pool.now.held) (oldest seen trail.old.entries) ≤ steps.old + pairs_of (clauses_of pool.now.held) trail.old.entries }
 {
     let conflict = meet(table, pool, trail, seen, steps);
     if conflict.is_some() {
@@ -108,18 +111,19 @@ fn meet<L: Ledger>(
     seen: usize,
     steps: &mut Steps<L>,
 ) -> Option<Name>
-    requires ready { IsReady (length trail.now.saved) (clauses_of pool.now) trail.now.entries (oldest seen trail.now.entries) table.old }
+    requires ready { IsReady (length trail.now.saved) (clauses_of pool.now.held) trail.now.entries (oldest seen trail.now.entries) table.old }
     requires seen { seen ≤ length trail.now.entries }
-    requires within { All (λ c. All (IsWithin (length trail.now.saved)) c.lits) (clauses_of pool.now) }
-    requires finds { FindsAll (lits_at (clauses_of pool.now)) (clauses_of pool.now) }
-    requires rising { AreRisingBy (λ (c : NamedClause). c.name) (clauses_of pool.now) }
-    ensures conflict { result ≡ conflict_of trail.now.entries (clauses_of pool.now) }
-    ensures units { IfNone result (with_noted table.new.noted.notes.items trail.now.entries ≡ with_units trail.now.entries (clauses_of pool.now) trail.now.entries) }
+    requires spanned { AreSpanned pool.now.added table.old.rows.items }
+    requires within { All (λ c. All (IsWithin (length trail.now.saved)) c.lits) (clauses_of pool.now.held) }
+    requires finds { FindsAll (lits_at (clauses_of pool.now.held)) (clauses_of pool.now.held) }
+    requires rising { AreRisingBy (λ (c : NamedClause). c.name) (clauses_of pool.now.held) }
+    ensures conflict { result ≡ conflict_of trail.now.entries (clauses_of pool.now.held) }
+    ensures units { IfNone result (with_noted table.new.noted.notes.items trail.now.entries ≡ with_units trail.now.entries (clauses_of pool.now.held) trail.now.entries) }
     ensures within { AllByRecursion (λ (n : Note). IfSome n.lit (λ l. l.variable ≤ length trail.now.saved)) table.new.noted.notes.items }
-    ensures ready { IsReady (length trail.now.saved) (clauses_of pool.now) trail.now.entries trail.now.entries table.new }
+    ensures ready { IsReady (length trail.now.saved) (clauses_of pool.now.held) trail.now.entries trail.now.entries table.new }
     ensures same { HaveSameRows table.old table.new }
     ensures steps { steps.old ≤ steps.new }
-    ensures few { steps.new + pairs_of (clauses_of pool.now) (oldest seen trail.now.entries) ≤ steps.old + pairs_of (clauses_of pool.now) trail.now.entries }
+    ensures few { steps.new + pairs_of (clauses_of pool.now.held) (oldest seen trail.now.entries) ≤ steps.old + pairs_of (clauses_of pool.now.held) trail.now.entries }
 {
     gather(table, pool, trail, seen, steps);
     table.noted.order();

@@ -6,6 +6,7 @@ ghost use Rattle.lit_base.specs.Rounds.{NamedClause};
 ghost use Rattle.lit_base.specs.declared.trail.Entry.{Entry};
 ghost use Rattle.lit_base.specs.declared.name.Name.{Name};
 ghost use Rattle.round_prop.specs.Attached.{IsAttached, IsNewTo, AreAttachedNames, IsSettled};
+ghost use Rattle.round_prop.specs.Spanned.{IsPlacedIn};
 ghost use Rattle.round_prop.specs.Pairs.{pairs_of};
 ghost use Rattle.round_prop.specs.Propagation.{MayPropagate, HasPropagated};
 
@@ -15,6 +16,7 @@ use crate::fresh::Fresh;
 use crate::removal::is_among;
 use crate::room::make_room;
 use crate::round::run_rounds;
+use crate::row::find_rows;
 use crate::short::Short;
 use crate::table::Table;
 use clause_pool::{Pool, Steps};
@@ -60,7 +62,7 @@ impl Model for Rounds {
       table = r.table;
       shorts = r.shorts.items;
       fresh = clauses_of_fresh r.fresh.items;
-      propagated = clauses_of r.pool.value;
+      propagated = clauses_of r.pool.value.held;
       seen = r.trail.value.entries;
     } };
 
@@ -73,6 +75,7 @@ impl Rounds {
     /// Nothing attached and no entry seen, for trails of so many variables.
     pub fn make(alloc: Global, variables: u32) -> Result<Rounds, NoMemory>
         ensures attached { IfOk result (λ rounds. IsAttached rounds [] [] []) }
+        ensures placed { (added : List NamedClause) → IfOk result (λ rounds. IsPlacedIn rounds added) }
         ensures variables { IfOk result (λ rounds. rounds.variables ≡ variables) }
     {
         let none = Pool::new(alloc);
@@ -92,14 +95,15 @@ impl Rounds {
     /// Attaches a held clause that isn't attached; its name is fresh until the next propagation ends. After `NoMemory`
     /// nothing is changed.
     pub fn attach(&mut self, pool: &Pool, trail: &Trail, name: Name) -> Result<(), NoMemory>
-        requires held { IsSome (lits_at (clauses_of pool.now) name) }
+        requires held { IsSome (lits_at (clauses_of pool.now.held) name) }
         requires new { IsNewTo self.old name }
         ensures attached { OnOk result ((attached : List NamedClause) (fresh : List Name) (seen : List Entry)
             (lits : List Literal) → IsAttached self.old attached fresh seen →
-            lits_at (clauses_of pool.now) name ≡ Some lits → lits_at attached name ≡ None →
+            lits_at (clauses_of pool.now.held) name ≡ Some lits → lits_at attached name ≡ None →
             IsAttached self.new (with_named (record { name = name; lits = lits }) attached) (name ∷ fresh) seen) }
         ensures err { OnErr result ((attached : List NamedClause) (fresh : List Name) (seen : List Entry) →
             IsAttached self.old attached fresh seen → IsAttached self.new attached fresh seen) }
+        ensures placed { (added : List NamedClause) → IsPlacedIn self.old added → IsPlacedIn self.new added }
         ensures variables { self.new.variables ≡ self.old.variables }
     {
         // the next propagation links it, so nothing of the trail is taken in here
@@ -110,18 +114,19 @@ impl Rounds {
         Ok(())
     }
 
-    /// Detaches the clauses of these names, which are attached and distinct; a step for each pair of an attached name and
-    /// one of these.
+    /// Detaches the clauses of these names, which are attached and distinct, and finds where the others stand in the pool; so
+    /// call it when the pool has dropped what it is to drop. It takes a step for each clause that is attached, with a search
+    /// among these names.
     pub fn detach(&mut self, pool: &Pool, names: &[Name])
         requires attached { AreAttachedNames self.old names.now }
         ensures attached { (attached : List NamedClause) (fresh : List Name) (seen : List Entry) →
             IsAttached self.old attached fresh seen →
             IsAttached self.new (clauses_without names.now attached) (names_without names.now fresh) seen }
+        ensures placed { IsPlacedIn self.new pool.now.added }
         ensures variables { self.new.variables ≡ self.old.variables }
     {
-        // a row has its name, so no clause is read
-        let _ = pool;
         self.table.remove(names);
+        find_rows(&mut self.table.rows, pool);
         self.shorts.retain(|short| !is_among(names, short.name));
         self.fresh.retain(|fresh| !is_among(names, fresh.name));
     }
@@ -137,6 +142,7 @@ impl Rounds {
         ensures above { (attached : List NamedClause) (fresh : List Name) (seen more : List Entry) →
             IsAttached self.old attached fresh seen → trail.now.entries ≡ more ++ seen →
             IsAttached self.new attached fresh seen }
+        ensures placed { (added : List NamedClause) → IsPlacedIn self.old added → IsPlacedIn self.new added }
         ensures variables { self.new.variables ≡ self.old.variables }
     {
         let len = trail.len();
@@ -162,9 +168,9 @@ impl Rounds {
         requires { MayPropagate self.old pool.now trail.old }
         ensures propagated { HasPropagated pool.now trail.old self.new trail.new result }
         ensures steps { steps.old ≤ steps.new }
-        ensures few { (fresh : List Name) (seen newer : List Entry) → IsAttached self.old (clauses_of pool.now) fresh seen →
+        ensures few { (fresh : List Name) (seen newer : List Entry) → IsAttached self.old (clauses_of pool.now.held) fresh seen →
             trail.new.entries ≡ newer ++ seen →
-            steps.new ≤ steps.old + pairs_of (clauses_of pool.now) newer + length fresh }
+            steps.new ≤ steps.old + pairs_of (clauses_of pool.now.held) newer + length fresh }
     {
         // for the checker alone: that the entries are over distinct variables, which their number tells
         let _ = trail.len();

@@ -79,7 +79,7 @@ const CASES: [Case; 6] = [
 enum Act {
     /// holds and attaches a clause under the name of this place
     Hold(u32, &'static [i32]),
-    /// detaches and drops the clause of this place
+    /// drops and detaches the clause of this place
     Release(u32),
     /// decides a literal
     Decide(i32),
@@ -226,8 +226,8 @@ fn hold(
 ) -> Result<(), NoMemory>
     requires { MayPropagate rounds.old pool.old trail.now }
     ensures may { OnOk result (MayPropagate rounds.new pool.new trail.now) }
-    ensures names { OnOk result ((names : List Name) → IsTrue (is_among names name) → All (λ c. IsTrue (is_among names c.name)) (clauses_of pool.old) →
-        All (λ c. IsTrue (is_among names c.name)) (clauses_of pool.new)) }
+    ensures names { OnOk result ((names : List Name) → IsTrue (is_among names name) → All (λ c. IsTrue (is_among names c.name)) (clauses_of pool.old.held) →
+        All (λ c. IsTrue (is_among names c.name)) (clauses_of pool.new.held)) }
 {
     assert!(rt; !pool.held(name));
     assert!(rt; clause.is_within(trail.variables()));
@@ -265,17 +265,17 @@ fn hold_all(
     Ok(())
 }
 
-/// Detaches and drops a clause, once it was seen to be held.
+/// Drops and detaches a clause, once it was seen to be held.
 fn release(rt: &impl Abort, pool: &mut Pool, rounds: &mut Rounds, trail: &Trail, name: Name)
     requires { MayPropagate rounds.old pool.old trail.now }
     ensures may { MayPropagate rounds.new pool.new trail.now }
-    ensures names { (names : List Name) → All (λ c. IsTrue (is_among names c.name)) (clauses_of pool.old) →
-        All (λ c. IsTrue (is_among names c.name)) (clauses_of pool.new) }
+    ensures names { (names : List Name) → All (λ c. IsTrue (is_among names c.name)) (clauses_of pool.old.held) →
+        All (λ c. IsTrue (is_among names c.name)) (clauses_of pool.new.held) }
 {
     assert!(rt; pool.held(name));
     assert!(rt; name.period != 0);
-    rounds.detach(pool, &[name]);
     pool.drop_names(&[name]);
+    rounds.detach(pool, &[name]);
 }
 
 /// Propagates, and compares what is found and what the trail then has behind a place.
@@ -385,7 +385,7 @@ fn see_quiet<L: Ledger>(
     steps: &mut Steps<L>,
     name: Name,
 )
-    ensures { (lits : List Literal) → lits_at (clauses_of pool.now) name ≡ Some lits → IsQuiet trail.now.entries lits }
+    ensures { (lits : List Literal) → lits_at (clauses_of pool.now.held) name ≡ Some lits → IsQuiet trail.now.entries lits }
 {
     if pool.held(name) {
         assert!(rt; is_quiet(trail, pool.lits(name, steps)));
@@ -400,7 +400,7 @@ fn see_all_quiet<L: Ledger>(
     steps: &mut Steps<L>,
     names: &[Name],
 )
-    ensures { (name : Name) (lits : List Literal) → IsTrue (is_among names.now name) → lits_at (clauses_of pool.now) name ≡ Some lits → IsQuiet trail.now.entries lits }
+    ensures { (name : Name) (lits : List Literal) → IsTrue (is_among names.now name) → lits_at (clauses_of pool.now.held) name ≡ Some lits → IsQuiet trail.now.entries lits }
 {
     for name in names {
         see_quiet(rt, pool, trail, steps, *name);
@@ -419,7 +419,7 @@ fn jump<L: Ledger>(
     level: u32,
 )
     requires may { MayPropagate rounds.old pool.now trail.old }
-    requires names { All (λ c. IsTrue (is_among names.now c.name)) (clauses_of pool.now) }
+    requires names { All (λ c. IsTrue (is_among names.now c.name)) (clauses_of pool.now.held) }
     ensures { MayPropagate rounds.new pool.now trail.new }
 {
     assert!(rt; level <= trail.level());
@@ -442,7 +442,7 @@ fn extend<L: Ledger>(
 )
     requires { MayPropagate rounds.old pool.now trail.old }
     ensures may { MayPropagate rounds.new pool.now trail.new }
-    ensures seen { IsAttached rounds.new (clauses_of pool.now) [] trail.new.entries }
+    ensures seen { IsAttached rounds.new (clauses_of pool.now.held) [] trail.new.entries }
 {
     let from = trail.len();
     let level = trail.level();
@@ -461,7 +461,7 @@ fn repeat<L: Ledger>(
     conflict: Option<u32>,
 )
     requires may { MayPropagate rounds.old pool.now trail.old }
-    requires seen { IsAttached rounds.old (clauses_of pool.now) [] trail.old.entries }
+    requires seen { IsAttached rounds.old (clauses_of pool.now.held) [] trail.old.entries }
     ensures may { MayPropagate rounds.new pool.now trail.new }
     ensures steps { steps.new ≡ steps.old }
 {
@@ -483,9 +483,9 @@ fn perform<L: Ledger>(
     act: &Act,
 ) -> Result<(), NoMemory>
     requires may { MayPropagate rounds.old pool.old trail.old }
-    requires names { All (λ c. IsTrue (is_among names.now c.name)) (clauses_of pool.old) }
+    requires names { All (λ c. IsTrue (is_among names.now c.name)) (clauses_of pool.old.held) }
     ensures may { OnOk result (MayPropagate rounds.new pool.new trail.new) }
-    ensures names { OnOk result (All (λ c. IsTrue (is_among names.now c.name)) (clauses_of pool.new)) }
+    ensures names { OnOk result (All (λ c. IsTrue (is_among names.now c.name)) (clauses_of pool.new.held)) }
 {
     match act {
         Act::Hold(place, numbers) => {

@@ -7,6 +7,8 @@ use Rattle.lit_base.specs.Literal.{same}
 use Rattle.lit_base.specs.Trail.{level_now}
 use Rattle.lit_base.specs.Rounds.{NamedClause}
 use Rattle.lit_base.specs.Held.{HeldClause, clauses_of, unused, with_clause}
+use Rattle.clause_pool.specs.Spans.{PoolState}
+use Rattle.round_prop.specs.Spanned.{IsPlacedIn}
 use Rattle.round_prop.specs.Attached.{RoundsState, IsAttachedTo}
 use Rattle.solo_core.specs.declared.lemma.Lemma.{Lemma}
 use Rattle.solo_core.specs.declared.sheet.Mail.{Mail}
@@ -91,15 +93,16 @@ few_uses-unused most [] held few = few
 few_uses-unused most (c ∷ later) held few = few_uses-unused most later (with_clause (unused c) held) (few_uses-with most c held few)
 
 -- the search after an import, with what it holds then, its emptied lemmas and what propagation keeps
-abbrev pub after_imports : SearchState → List HeldClause → List Lemma → RoundsState → SearchState
-after_imports s held lemmas rounds =
-    record s { state = record s.state { period = s.state.period + 1; clauses = held; period_conflicts = 0; lemmas = lemmas }; rounds = rounds }
+abbrev pub after_imports : SearchState → PoolState → List Lemma → RoundsState → SearchState
+after_imports s pool lemmas rounds =
+    record s { state = record s.state { period = s.state.period + 1; clauses = pool.held; period_conflicts = 0; lemmas = lemmas }; added = pool.added; rounds = rounds }
 
-pub imported_joined : (s : SearchState) (clauses : List NamedClause) (held : List HeldClause) (lemmas : List Lemma) (rounds : RoundsState) → IsJoined s → held ≡ with_unused clauses s.state.clauses →
-    lemmas ≡ [] → rounds.variables ≡ s.rounds.variables → IsAttachedTo rounds (clauses_of held) s.state.trail → IsJoined (after_imports s held lemmas rounds)
-imported_joined s clauses held lemmas rounds joined is none same attached = record {
+pub imported_joined : (s : SearchState) (clauses : List NamedClause) (pool : PoolState) (lemmas : List Lemma) (rounds : RoundsState) → IsJoined s → pool.held ≡ with_unused clauses s.state.clauses →
+    lemmas ≡ [] → rounds.variables ≡ s.rounds.variables → IsAttachedTo rounds (clauses_of pool.held) s.state.trail → IsPlacedIn rounds pool.added → IsJoined (after_imports s pool lemmas rounds)
+imported_joined s clauses pool lemmas rounds joined is none same attached placed = record {
   over = over_rounds s.frame.variables s.state.saved s.rounds rounds s.analyser joined.over same;
   attached = attached;
+  placed = placed;
   counts = record {
     uses = subst (AreFewUses s.state.conflicts) (sym is) (few_uses-unused s.state.conflicts clauses s.state.clauses joined.counts.uses);
     lemmas = let count = ap length none in omega (arith, count);

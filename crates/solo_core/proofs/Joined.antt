@@ -15,6 +15,7 @@ use Rattle.lit_base.specs.declared.name.Name.{Name}
 use Rattle.lit_base.proofs.Cuts.{cut_itself}
 use Rattle.lit_base.proofs.HeldClauses.{same_name-itself, lits_at-with, clauses_of-with_uses}
 use Rattle.round_prop.specs.Attached.{RoundsState, IsAttached, IsAttachedTo, IsNewTo, IsSettled}
+use Rattle.round_prop.specs.Spanned.{IsPlacedIn}
 use Rattle.round_prop.proofs.Follow.{clauses_of-with_clause}
 use Rattle.trail_book.specs.TrailState.{TrailState, jumped}
 use Rattle.var_order.specs.Order.{OrderState, HasAllFree}
@@ -63,6 +64,7 @@ pub ordered_joined : (s : SearchState) (order : OrderState) → IsJoined s → o
 ordered_joined s order joined same present = record {
   over = joined.over;
   attached = joined.attached;
+  placed = joined.placed;
   counts = joined.counts;
   order = other_order s.frame.variables (order_of s) order s.state.trail s.state.trail s.state.conflicts s.state.conflicts (omega arith) joined.order same present;
   pace = joined.pace;
@@ -74,6 +76,7 @@ pub decided_joined : (s : SearchState) (l : Literal) (order : OrderState) → Is
 decided_joined s l order joined same present = record {
   over = joined.over;
   attached = entry_attached s.rounds (clauses_of s.state.clauses) s.state.trail _ joined.attached;
+  placed = joined.placed;
   counts = joined.counts;
   order = other_order s.frame.variables (order_of s) order s.state.trail (with_decision l s.state.trail) s.state.conflicts s.state.conflicts (omega arith) joined.order same present;
   pace = joined.pace;
@@ -186,6 +189,11 @@ held_attached before after held more trail name lits is told free attached =
       older = attached.older;
     }
 
+-- what holds anyway holds of an attempt that succeeds
+pub on_ok_always : {T E P : Type 0} (r : Result T E) → P → OnOk r P
+on_ok_always (Ok x) holds = holds
+on_ok_always (Err e) holds = tt
+
 -- the same of an attempt to attach it
 pub attached-on_ok : {T E : Type 0} (r : Result T E) (before after : RoundsState) (held more : List HeldClause) (trail : List Entry) (name : Name) (lits : List Literal) →
     more ≡ with_clause (unused (record { name = name; lits = lits })) held → OnOk r (TellsHeld before after name more) → lits_at (clauses_of held) name ≡ None →
@@ -227,11 +235,12 @@ abbrev pub after_jump : SearchState → RoundsState → TrailState → OrderStat
 after_jump s rounds trail order = with_order order (record s { state = record s.state { trail = trail.entries; saved = trail.saved }; rounds = rounds })
 
 pub jumped_joined : (s : SearchState) (rounds : RoundsState) (trail : TrailState) (order : OrderState) (level : ℕ) → IsJoined s → trail ≡ jumped level (trail_of s) →
-    rounds.variables ≡ s.rounds.variables → IsAttachedTo rounds (clauses_of s.state.clauses) trail.entries → order.activities ≡ s.state.activities → HasAllFree order trail.entries →
+    rounds.variables ≡ s.rounds.variables → IsAttachedTo rounds (clauses_of s.state.clauses) trail.entries → IsPlacedIn rounds s.added → order.activities ≡ s.state.activities → HasAllFree order trail.entries →
     IsJoined (after_jump s rounds trail order)
-jumped_joined s rounds trail order level joined is same attached kept present = record {
+jumped_joined s rounds trail order level joined is same attached placed kept present = record {
   over = over_jumped s.frame.variables level (trail_of s) trail s.rounds rounds s.analyser joined.over is same;
   attached = attached;
+  placed = placed;
   counts = joined.counts;
   order = other_order s.frame.variables (order_of s) order s.state.trail trail.entries s.state.conflicts s.state.conflicts (omega arith) joined.order kept present;
   pace = joined.pace;
@@ -239,10 +248,11 @@ jumped_joined s rounds trail order level joined is same attached kept present = 
 
 -- propagation frees no variable
 pub propagated_joined : (s : SearchState) (rounds : RoundsState) (trail : List Entry) → IsJoined s → trail ≡ (propagate s.frame.variables (clauses_of s.state.clauses) s.state.trail).trail →
-    rounds.variables ≡ s.rounds.variables → IsAttached rounds (clauses_of s.state.clauses) [] trail → IsJoined (record s { state = record s.state { trail = trail }; rounds = rounds })
-propagated_joined s rounds trail joined is same attached = record {
+    rounds.variables ≡ s.rounds.variables → IsAttached rounds (clauses_of s.state.clauses) [] trail → IsPlacedIn rounds s.added → IsJoined (record s { state = record s.state { trail = trail }; rounds = rounds })
+propagated_joined s rounds trail joined is same attached placed = record {
   over = over_rounds s.frame.variables s.state.saved s.rounds rounds s.analyser joined.over same;
   attached = seen_attached rounds (clauses_of s.state.clauses) trail attached;
+  placed = placed;
   counts = joined.counts;
   order = other_order s.frame.variables (order_of s) (order_of s) s.state.trail trail s.state.conflicts s.state.conflicts (omega arith) joined.order refl
       (subst (HasAllFree (order_of s)) (sym is) (propagated_present (order_of s) s.frame.variables (clauses_of s.state.clauses) s.state.trail joined.order.present));
@@ -250,12 +260,13 @@ propagated_joined s rounds trail joined is same attached = record {
 }
 
 -- clauses were dropped
-pub dropped_joined : (s : SearchState) (rounds : RoundsState) (left : List HeldClause) (reductions : ℕ) → IsJoined s → AreFewUses s.state.conflicts left → rounds.variables ≡ s.rounds.variables →
-    IsAttachedTo rounds (clauses_of left) s.state.trail → reductions ≤ s.state.tempo.t →
-    IsJoined (record s { state = record s.state { clauses = left; reductions = reductions }; rounds = rounds })
-dropped_joined s rounds left reductions joined few same attached low = record {
+pub dropped_joined : (s : SearchState) (rounds : RoundsState) (left : List HeldClause) (added : List NamedClause) (reductions : ℕ) → IsJoined s → AreFewUses s.state.conflicts left → rounds.variables ≡ s.rounds.variables →
+    IsAttachedTo rounds (clauses_of left) s.state.trail → IsPlacedIn rounds added → reductions ≤ s.state.tempo.t →
+    IsJoined (record s { state = record s.state { clauses = left; reductions = reductions }; added = added; rounds = rounds })
+dropped_joined s rounds left added reductions joined few same attached placed low = record {
   over = over_rounds s.frame.variables s.state.saved s.rounds rounds s.analyser joined.over same;
   attached = attached;
+  placed = placed;
   counts = record {
     uses = few;
     lemmas = joined.counts.lemmas;

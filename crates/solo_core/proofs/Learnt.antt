@@ -1,11 +1,13 @@
 -- What a search needs for a lesson, and that its parts fit one another after it.
-use Rattle.std.proofs.Common.{◌≡◌, ℕ, ◌==◌, ◌+◌, ◌^◌, ◌≤◌, ◌<◌, List, [], ◌∷◌, ◌++◌, length, length-append, ap, sym, ◌∙◌, subst, arith}
+use Rattle.std.proofs.Common.{◌≡◌, ℕ, ◌==◌, ◌+◌, ◌^◌, ◌<◌, List, [], ◌∷◌, ◌++◌, length, length-append, sym, ◌∙◌, subst, arith}
 use Rattle.std.specs.Prelude.{None, IsSome, Result, Ok, Err, OnOk}
 use Rattle.std.specs.List.{AllByRecursion, IsDistinct}
 use Rattle.lit_base.specs.Trail.{level_now}
 use Rattle.lit_base.specs.Named.{same_name, lits_at}
 use Rattle.lit_base.specs.Literal.{same}
-use Rattle.lit_base.specs.Held.{HeldClause, clauses_of, unused, with_clause, with_uses}
+use Rattle.lit_base.specs.Held.{clauses_of, unused, with_clause, with_uses}
+use Rattle.clause_pool.specs.Spans.{PoolState}
+use Rattle.round_prop.specs.Spanned.{IsPlacedIn}
 use Rattle.round_prop.specs.Attached.{RoundsState, IsAttachedTo}
 use Rattle.lit_base.specs.Quiet.{IsAsserting}
 use Rattle.lit_base.specs.declared.lesson.Lesson.{Lesson}
@@ -66,22 +68,24 @@ pub uses_fit : (s : SearchState) → IsReady s → s.state.conflicts < 2 ^ 32 �
 uses_fit s ready few = few_uses-more s.state.conflicts (2 ^ 32) s.state.clauses (omega arith) ready.joined.counts.uses
 
 -- the search after the jump back, with these clauses held, and the lemma recorded
-abbrev pub after_lesson : SearchState → RoundsState → List HeldClause → TrailState → OrderState → Lemma → SearchState
-after_lesson s rounds held trail order lemma = with_order order (record s {
-  state = record (with_lemma lemma s.state) { clauses = held; trail = trail.entries; saved = trail.saved };
+abbrev pub after_lesson : SearchState → RoundsState → PoolState → TrailState → OrderState → Lemma → SearchState
+after_lesson s rounds pool trail order lemma = with_order order (record s {
+  state = record (with_lemma lemma s.state) { clauses = pool.held; trail = trail.entries; saved = trail.saved };
+  added = pool.added;
   rounds = rounds;
 })
 
 -- its parts fit one another
-pub learnt_joined : (s : SearchState) (rounds : RoundsState) (held : List HeldClause) (trail : TrailState) (order : OrderState) (lemma : Lemma) (level : ℕ) → IsReady s →
-    trail ≡ jumped level (trail_of s) → held ≡ with_uses lemma.hints (with_clause (unused (lemma_clause lemma)) s.state.clauses) →
-    rounds.variables ≡ s.rounds.variables → IsAttachedTo rounds (clauses_of held) trail.entries → order.activities ≡ s.state.activities → HasAllFree order trail.entries →
-    IsJoined (after_lesson s rounds held trail order lemma)
-learnt_joined s rounds held trail order lemma level ready trail_is held_is same attached kept present =
+pub learnt_joined : (s : SearchState) (rounds : RoundsState) (pool : PoolState) (trail : TrailState) (order : OrderState) (lemma : Lemma) (level : ℕ) → IsReady s →
+    trail ≡ jumped level (trail_of s) → pool.held ≡ with_uses lemma.hints (with_clause (unused (lemma_clause lemma)) s.state.clauses) →
+    rounds.variables ≡ s.rounds.variables → IsAttachedTo rounds (clauses_of pool.held) trail.entries → IsPlacedIn rounds pool.added → order.activities ≡ s.state.activities → HasAllFree order trail.entries →
+    IsJoined (after_lesson s rounds pool trail order lemma)
+learnt_joined s rounds pool trail order lemma level ready trail_is held_is same attached placed kept present =
     let joined = ready.joined in
     record {
       over = over_jumped s.frame.variables level (trail_of s) trail s.rounds rounds s.analyser joined.over trail_is same;
       attached = attached;
+      placed = placed;
       counts = record {
         uses = subst (AreFewUses (s.state.conflicts + 1)) (sym held_is)
             (few_uses-counted s.state.conflicts lemma.hints (with_clause (unused (lemma_clause lemma)) s.state.clauses) (few_uses-with s.state.conflicts (lemma_clause lemma) s.state.clauses joined.counts.uses));
@@ -138,6 +142,7 @@ pub weighed_joined : (s : SearchState) (before : ℕ) (touched : List ℕ) → I
 weighed_joined s before touched joined counted few apart within = record {
   over = joined.over;
   attached = joined.attached;
+  placed = joined.placed;
   counts = joined.counts;
   order = record {
     activities = same ∙ joined.order.activities;

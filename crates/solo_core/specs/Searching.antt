@@ -9,6 +9,7 @@ use Rattle.lit_base.specs.declared.trail.Entry.{Entry}
 use Rattle.lit_base.specs.declared.name.Name.{Name}
 use Rattle.lit_base.specs.declared.lesson.Lesson.{Lesson}
 use Rattle.round_prop.specs.Attached.{RoundsState, IsAttachedTo}
+use Rattle.round_prop.specs.Spanned.{IsPlacedIn}
 use Rattle.var_order.specs.Order.{OrderState, activity_at, HasAllFree}
 use Rattle.tempo.specs.Tempo.{TempoState}
 use Rattle.core_rows.specs.Rows.{IsInRange}
@@ -69,6 +70,8 @@ pub record IsJoined (s : SearchState) : Type 0 where
   pub over : AreOver s.frame.variables s.state.saved s.rounds s.analyser
   -- propagation goes over the held clauses, and has seen an older part of the trail
   pub attached : IsAttachedTo s.rounds (clauses_of s.state.clauses) s.state.trail
+  -- and what it remembers of places is right
+  pub placed : IsPlacedIn s.rounds s.added
   pub counts : AreCounted s.frame s.state.clauses s.state.lemmas s.state.conflicts s.state.period_conflicts
   pub order : IsOrdered s.frame.variables (order_of s) s.state.trail s.state.conflicts
   pub pace : ArePaced s.state.tempo s.state.reductions s.state.conflicts

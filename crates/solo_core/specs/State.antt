@@ -55,6 +55,8 @@ pub record CoreState : Type 0 where
 pub record SearchState : Type 0 where
   pub frame : CoreFrame
   pub state : CoreState
+  -- the held clauses without their uses, as they were added, the newest first
+  pub added : List NamedClause
   -- what propagation keeps; only its own crate knows what that is
   pub rounds : RoundsState
   -- for how many variables conflict analysis has room

@@ -4,6 +4,7 @@ ghost use Rattle.lit_base.specs.Rounds.{original, named_from};
 ghost use Rattle.lit_base.specs.Named.{lits_at};
 ghost use Rattle.lit_base.specs.Held.{clauses_of, unused, with_clause};
 ghost use Rattle.round_prop.specs.Attached.{IsAttachedTo};
+ghost use Rattle.round_prop.specs.Spanned.{IsPlacedIn};
 ghost use Rattle.solo_core.specs.First.{AreInRange, frame_of, first_state, starts_from};
 ghost use Rattle.solo_core.specs.Searching.{AreActivitiesUpTo, IsJoined, IsSearchAt};
 
@@ -73,10 +74,12 @@ fn hold_originals(
     clauses: &[Clause],
 ) -> Result<(), NoMemory>
     requires few { length clauses.now ≤ 4000000 }
-    requires empty { pool.old ≡ [] }
-    requires attached { IsAttachedTo rounds.old (clauses_of pool.old) trail.now.entries }
-    ensures held { OnOk result (pool.new ≡ map unused (named_from 0 clauses.now)) }
-    ensures attached { OnOk result (IsAttachedTo rounds.new (clauses_of pool.new) trail.now.entries) }
+    requires empty { pool.old ≡ record { held = []; added = [] } }
+    requires attached { IsAttachedTo rounds.old (clauses_of pool.old.held) trail.now.entries }
+    requires placed { IsPlacedIn rounds.old pool.old.added }
+    ensures held { OnOk result (pool.new.held ≡ map unused (named_from 0 clauses.now)) }
+    ensures attached { OnOk result (IsAttachedTo rounds.new (clauses_of pool.new.held) trail.now.entries) }
+    ensures placed { OnOk result (IsPlacedIn rounds.new pool.new.added) }
     ensures variables { rounds.new.variables ≡ rounds.old.variables }
 {
     for (index, clause) in clauses.iter().enumerate() {

@@ -2,6 +2,7 @@
 ghost use Rattle.std.specs.Prelude.{◌≡◌, ◌<◌, ◌+◌, ◌^◌, map, OnOk};
 ghost use Rattle.lit_base.specs.Held.{clauses_of};
 ghost use Rattle.round_prop.specs.Attached.{IsAttachedTo};
+ghost use Rattle.round_prop.specs.Spanned.{IsPlacedIn};
 ghost use Rattle.solo_core.specs.Period.{AreNewTo, clauses_posted, core_after_import, posted_clause, with_unused};
 ghost use Rattle.solo_core.specs.Searching.{IsJoined, IsSearchAt};
 
@@ -39,10 +40,12 @@ fn hold_mails(
     trail: &Trail,
     mails: &[Mail],
 ) -> Result<(), NoMemory>
-    requires new { AreNewTo pool.old (clauses_posted mails.now) }
-    requires attached { IsAttachedTo rounds.old (clauses_of pool.old) trail.now.entries }
-    ensures held { OnOk result (pool.new ≡ with_unused (clauses_posted mails.now) pool.old) }
-    ensures attached { OnOk result (IsAttachedTo rounds.new (clauses_of pool.new) trail.now.entries) }
+    requires new { AreNewTo pool.old.held (clauses_posted mails.now) }
+    requires attached { IsAttachedTo rounds.old (clauses_of pool.old.held) trail.now.entries }
+    requires placed { IsPlacedIn rounds.old pool.old.added }
+    ensures held { OnOk result (pool.new.held ≡ with_unused (clauses_posted mails.now) pool.old.held) }
+    ensures attached { OnOk result (IsAttachedTo rounds.new (clauses_of pool.new.held) trail.now.entries) }
+    ensures placed { OnOk result (IsPlacedIn rounds.new pool.new.added) }
     ensures variables { rounds.new.variables ≡ rounds.old.variables }
 {
     for mail in mails {
@@ -58,10 +61,12 @@ fn hold_posts(
     trail: &Trail,
     posts: &[Posted],
 ) -> Result<(), NoMemory>
-    requires new { AreNewTo pool.old (map posted_clause posts.now) }
-    requires attached { IsAttachedTo rounds.old (clauses_of pool.old) trail.now.entries }
-    ensures held { OnOk result (pool.new ≡ with_unused (map posted_clause posts.now) pool.old) }
-    ensures attached { OnOk result (IsAttachedTo rounds.new (clauses_of pool.new) trail.now.entries) }
+    requires new { AreNewTo pool.old.held (map posted_clause posts.now) }
+    requires attached { IsAttachedTo rounds.old (clauses_of pool.old.held) trail.now.entries }
+    requires placed { IsPlacedIn rounds.old pool.old.added }
+    ensures held { OnOk result (pool.new.held ≡ with_unused (map posted_clause posts.now) pool.old.held) }
+    ensures attached { OnOk result (IsAttachedTo rounds.new (clauses_of pool.new.held) trail.now.entries) }
+    ensures placed { OnOk result (IsPlacedIn rounds.new pool.new.added) }
     ensures variables { rounds.new.variables ≡ rounds.old.variables }
 {
     for post in posts {

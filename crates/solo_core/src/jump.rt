@@ -3,6 +3,7 @@ ghost use Rattle.std.specs.Prelude.{◌≡◌, List, length};
 ghost use Rattle.lit_base.specs.Quiet.{AreQuietBelow};
 ghost use Rattle.lit_base.specs.Rounds.{NamedClause};
 ghost use Rattle.round_prop.specs.Attached.{IsAttachedTo};
+ghost use Rattle.round_prop.specs.Spanned.{IsPlacedIn};
 ghost use Rattle.trail_book.specs.TrailState.{jumped};
 ghost use Rattle.var_order.specs.Order.{HasAllFree};
 
@@ -18,6 +19,7 @@ pub(crate) fn jump_back(trail: &mut Trail, rounds: &mut Rounds, order: &mut Orde
     ensures trail { trail.new ≡ jumped level trail.old }
     ensures attached { (clauses : List NamedClause) → IsAttachedTo rounds.old clauses trail.old.entries →
         AreQuietBelow trail.old.entries clauses → IsAttachedTo rounds.new clauses trail.new.entries }
+    ensures placed { (added : List NamedClause) → IsPlacedIn rounds.old added → IsPlacedIn rounds.new added }
     ensures variables { rounds.new.variables ≡ rounds.old.variables }
     ensures activities { order.new.activities ≡ order.old.activities }
     ensures present { HasAllFree order.new trail.new.entries }

@@ -5,6 +5,7 @@ ghost use Rattle.lit_base.specs.Rounds.{NamedClause};
 ghost use Rattle.lit_base.specs.declared.trail.Entry.{Entry};
 ghost use Rattle.clause_pool.specs.Uses.{cleared};
 ghost use Rattle.round_prop.specs.Attached.{IsAttachedTo};
+ghost use Rattle.round_prop.specs.Spanned.{IsPlacedIn};
 ghost use Rattle.trim_rule.specs.Laws.{MayBeDropped};
 ghost use Rattle.solo_core.specs.Turn.{reduced, paced};
 ghost use Rattle.solo_core.specs.Soundness.{IsSound};
@@ -55,14 +56,15 @@ impl Search {
 
 /// Drops the clauses of these names, which are held, distinct and no originals', and begins to count all uses anew.
 fn drop_clauses(pool: &mut Pool, rounds: &mut Rounds, names: &[Name])
-    requires names { MayBeDropped pool.old names.now }
-    requires attached { (trail : List Entry) × IsAttachedTo rounds.old (clauses_of pool.old) trail }
-    ensures pool { pool.new ≡ cleared (without_names names.now pool.old) }
-    ensures attached { (trail : List Entry) → IsAttachedTo rounds.old (clauses_of pool.old) trail →
-        IsAttachedTo rounds.new (clauses_of pool.new) trail }
+    requires names { MayBeDropped pool.old.held names.now }
+    requires attached { (trail : List Entry) × IsAttachedTo rounds.old (clauses_of pool.old.held) trail }
+    ensures pool { pool.new.held ≡ cleared (without_names names.now pool.old.held) }
+    ensures attached { (trail : List Entry) → IsAttachedTo rounds.old (clauses_of pool.old.held) trail →
+        IsAttachedTo rounds.new (clauses_of pool.new.held) trail }
+    ensures placed { IsPlacedIn rounds.new pool.new.added }
     ensures variables { rounds.new.variables ≡ rounds.old.variables }
 {
-    rounds.detach(pool, names);
     pool.drop_names(names);
     pool.clear_uses();
+    rounds.detach(pool, names);
 }

@@ -76,7 +76,7 @@ impl Model for Search {
       frame = record { variables = s.variables; core = s.core; share = s.share; limit = s.limit; row = s.row };
       state = record {
         period = s.period;
-        clauses = s.pool;
+        clauses = s.pool.held;
         trail = s.trail.entries;
         saved = s.trail.saved;
         conflicts = s.conflicts;
@@ -86,6 +86,7 @@ impl Model for Search {
         tempo = s.tempo;
         reductions = s.reductions;
       };
+      added = s.pool.added;
       rounds = s.rounds;
       analyser = s.analyser;
       present = s.order.present;

@@ -9,10 +9,11 @@ use lit_base::Name;
 
 /// Counts a use of each of these clauses, which are held and distinct; uses of originals aren't counted.
 pub(crate) fn count_uses(pool: &mut Pool, hints: &[Name])
-    requires held { AllByRecursion (λ hint. IsSome (lits_at (clauses_of pool.old) hint)) hints.now }
+    requires held { AllByRecursion (λ hint. IsSome (lits_at (clauses_of pool.old.held) hint)) hints.now }
     requires distinct { IsDistinct same_name hints.now }
-    requires few { AreFewUses (2 ^ 32) pool.old }
-    ensures { pool.new ≡ with_uses hints.now pool.old }
+    requires few { AreFewUses (2 ^ 32) pool.old.held }
+    ensures held { pool.new.held ≡ with_uses hints.now pool.old.held }
+    ensures added { pool.new.added ≡ pool.old.added }
 {
     for hint in hints {
         pool.count_use(*hint);

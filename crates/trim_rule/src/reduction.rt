@@ -17,9 +17,9 @@ use trail_book::Trail;
 /// Memory is taken for the names of reasons and for a tally of each lemma; `NoMemory` where there is none. The lemmas are
 /// gone through once and sorted, and the originals that the pool finds by index aren't looked at.
 pub fn choose(alloc: Global, pool: &Pool, trail: &Trail) -> Result<List<Name>, NoMemory>
-    ensures names { IfOk result (λ names. names ≡ dropped_names pool.now trail.now.entries) }
+    ensures names { IfOk result (λ names. names ≡ dropped_names pool.now.held trail.now.entries) }
     // They are as `Pool::drop_names` asks for.
-    ensures dropped { IfOk result (λ names. MayBeDropped pool.now names) }
+    ensures dropped { IfOk result (λ names. MayBeDropped pool.now.held names) }
     ensures reasons { IfOk result (λ names. HaveOtherReasons trail.now.entries names) }
 {
     let reasons = lemma_reasons(alloc, trail.entries())?;

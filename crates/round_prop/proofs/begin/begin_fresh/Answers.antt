@@ -16,17 +16,17 @@ taken : (rest : List Fresh) (next : Fresh) (fresh : List Fresh) → fresh ≡ re
 taken rest next fresh are = ap fresh_names are ∙ fresh_names-last rest next
 
 -- what was attached is so, with the names in this order
-at_next : (g : _) (c : After-drop-next g) (done : List Entry) → AreAttachedIn (clauses_of c.args.pool.now) c.args.trail.now.entries done c.args.table.now c.args.shorts.now.items (fresh_names c.args.fresh.now.items) →
-    AreAttachedIn (clauses_of c.args.pool.now) c.args.trail.now.entries done c.loop-next.table c.loop-next.shorts.items (c.in-Some.next.name ∷ fresh_names c.pop.new.self.items)
+at_next : (g : _) (c : After-drop-next g) (done : List Entry) → AreAttachedIn (clauses_of c.args.pool.now.held) c.args.trail.now.entries done c.args.table.now c.args.shorts.now.items (fresh_names c.args.fresh.now.items) →
+    AreAttachedIn (clauses_of c.args.pool.now.held) c.args.trail.now.entries done c.loop-next.table c.loop-next.shorts.items (c.in-Some.next.name ∷ fresh_names c.pop.new.self.items)
 at_next g c done are =
-    subst (λ names. AreAttachedIn (clauses_of c.args.pool.now) c.args.trail.now.entries done c.loop-next.table c.loop-next.shorts.items names)
+    subst (λ names. AreAttachedIn (clauses_of c.args.pool.now.held) c.args.trail.now.entries done c.loop-next.table c.loop-next.shorts.items names)
     (taken c.pop.new.self.items c.in-Some.next c.loop-next.fresh.items c.in-Some.ensures.items) (c.loop-next.invariant.attached done are)
 
 pub begin-requires-clause-attached : goal.begin-requires-clause-attached
 begin-requires-clause-attached g c = (
   c.requires.attached.0,
   fresh_names c.pop.new.self.items,
-  subst (λ names. AreAttachedIn (clauses_of c.args.pool.now) c.args.trail.now.entries c.requires.attached.0 c.loop-next.table c.loop-next.shorts.items names)
+  subst (λ names. AreAttachedIn (clauses_of c.args.pool.now.held) c.args.trail.now.entries c.requires.attached.0 c.loop-next.table c.loop-next.shorts.items names)
       (taken c.pop.new.self.items c.in-Some.next c.loop-next.fresh.items c.in-Some.ensures.items) (c.loop-next.invariant.attached c.requires.attached.0 c.requires.attached.1),
 )
 
@@ -38,6 +38,7 @@ loop-next-preserved g c =
       attached = λ done are. c.begin.ensures.attached done (fresh_names c.pop.new.self.items) (at_next g c done are);
       roomy = c.begin.ensures.roomy (vec_len c.pop.new.self)
           (subst (λ n. AreRoomy (length c.args.trail.now.saved) c.loop-next.table (vec_len c.loop-next.shorts) (vec_capacity c.loop-next.shorts) n) long c.loop-next.invariant.roomy);
+      spanned = λ all. c.begin.ensures.spanned (c.loop-next.invariant.spanned all);
       steps = omega (arith, long, c.begin.ensures.steps, c.loop-next.invariant.steps);
     }
 
@@ -46,5 +47,5 @@ returns-clause-attached g c =
     let none : vec_len c.loop-next.fresh ≡ 0 = c.in_default.ensures.cases.0 in
     let no_length : length c.loop-next.fresh.items ≡ 0 = omega (arith, none) in
     λ done are.
-    subst (λ (names : List Name). AreAttachedIn (clauses_of c.args.pool.now) c.args.trail.now.entries done c.loop-next.table c.loop-next.shorts.items names)
+    subst (λ (names : List Name). AreAttachedIn (clauses_of c.args.pool.now.held) c.args.trail.now.entries done c.loop-next.table c.loop-next.shorts.items names)
     (ap fresh_names (nil_from_length c.loop-next.fresh.items no_length)) (c.loop-next.invariant.attached done are)

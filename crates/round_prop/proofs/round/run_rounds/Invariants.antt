@@ -9,10 +9,10 @@ use Rattle.round_prop.proofs.round.run_rounds.Given as goal
 abbrev pub invariant-loop : goal.invariant-loop
 invariant-loop g l = record {
   saved : l.trail.saved ≡ l.fn.trail.saved;
-  rest : rounds (l.most - l.counter) (clauses_of l.pool) l.trail.entries ≡ propagate (length l.fn.trail.saved) (clauses_of l.pool) l.fn.trail.entries;
-  ready : IsReady (length l.fn.trail.saved) (clauses_of l.pool) l.trail.entries (oldest l.from l.trail.entries) l.table;
+  rest : rounds (l.most - l.counter) (clauses_of l.pool.held) l.trail.entries ≡ propagate (length l.fn.trail.saved) (clauses_of l.pool.held) l.fn.trail.entries;
+  ready : IsReady (length l.fn.trail.saved) (clauses_of l.pool.held) l.trail.entries (oldest l.from l.trail.entries) l.table;
   seen : l.from ≤ length l.trail.entries;
   same : HaveSameRows l.fn.table l.table;
   steps : l.fn.steps ≤ l.steps;
-  few : l.steps + pairs_of (clauses_of l.pool) (oldest l.seen l.fn.trail.entries) ≤ l.fn.steps + pairs_of (clauses_of l.pool) (oldest l.from l.trail.entries);
+  few : l.steps + pairs_of (clauses_of l.pool.held) (oldest l.seen l.fn.trail.entries) ≤ l.fn.steps + pairs_of (clauses_of l.pool.held) (oldest l.from l.trail.entries);
 }

@@ -8,5 +8,5 @@ use Rattle.round_prop.proofs.tests.play_on.Given as goal
 abbrev pub invariant-loop-act : goal.invariant-loop-act
 invariant-loop-act g l = record {
   may : MayPropagate l.rounds l.pool l.trail;
-  names : All (λ c. IsTrue (is_among l.names c.name)) (clauses_of l.pool);
+  names : All (λ c. IsTrue (is_among l.names c.name)) (clauses_of l.pool.held);
 }

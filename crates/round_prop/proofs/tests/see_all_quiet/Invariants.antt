@@ -10,4 +10,4 @@ use Rattle.round_prop.proofs.tests.see_all_quiet.Given as goal
 -- the clauses of the names so far are quiet
 abbrev pub invariant-loop-name : goal.invariant-loop-name
 invariant-loop-name g l =
-    (name : Name) (lits : List Literal) → IsTrue (is_among (take l.name-index l.names) name) → lits_at (clauses_of l.pool) name ≡ Some lits → IsQuiet l.trail.entries lits
+    (name : Name) (lits : List Literal) → IsTrue (is_among (take l.name-index l.names) name) → lits_at (clauses_of l.pool.held) name ≡ Some lits → IsQuiet l.trail.entries lits

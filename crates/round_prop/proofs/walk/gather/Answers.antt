@@ -2,7 +2,8 @@ use Rattle.std.proofs.Common.{◌+◌, ap, sym, ◌∙◌, subst, arith}
 use Rattle.lit_base.specs.Literal.{Literal}
 use Rattle.lit_base.specs.Held.{clauses_of}
 use Rattle.round_prop.specs.Pairs.{occurrences_of, pairs_of}
-use Rattle.round_prop.specs.Readied.{oldest, AreNamedApart, IsTable}
+use Rattle.round_prop.specs.Readied.{row_names, oldest, AreNamedApart, IsTable}
+use Rattle.round_prop.specs.Spanned.{AreSpanned}
 use Rattle.round_prop.proofs.OldestSteps.{trail_step, oldest_more, oldest_all}
 use Rattle.round_prop.proofs.TableSteps.{same_rows-trans, same_rows-refl}
 use Rattle.round_prop.proofs.walk.gather.Goals as goal
@@ -29,7 +30,7 @@ walk-requires-clause-room g c = omega (arith, c.loop-place.invariant.same.load, 
 pub loop-place-preserved : goal.loop-place-preserved
 loop-place-preserved g c =
     let trail = c.args.trail.now.entries in
-    let clauses = clauses_of c.args.pool.now in
+    let clauses = clauses_of c.args.pool.now.held in
     let place = c.loop-place.place in
     let step = trail_step trail place c.entry.result c.negated.result c.len-place-end.ensures.trail.distinct c.entry.ensures.value c.negated.ensures in
     record {
@@ -40,17 +41,21 @@ loop-place-preserved g c =
       few = λ apart.
           let more = ap (λ t. pairs_of clauses t) (oldest_more trail place c.entry.result c.entry.ensures.value) in
           let own = ap (λ l. occurrences_of l clauses) c.negated.ensures in
-          let here = c.walk.ensures.few (subst AreNamedApart (sym c.loop-place.invariant.same.names) apart) in
+          let here = c.walk.ensures.few (subst (λ rs. AreNamedApart (row_names rs)) (sym c.loop-place.invariant.same.rows) apart) in
           let before = c.loop-place.invariant.few apart in
           omega (arith, more, own, here, before);
     }
 
 pub returns-clause-table : goal.returns-clause-table
 returns-clause-table g c =
-    subst (λ done. IsTable (clauses_of c.args.pool.now) c.args.trail.now.entries done c.loop-place.table) (oldest_all c.loop-place.place c.args.trail.now.entries (omega (arith, c.loop-place-test.false, c.len-place-end.ensures.value))) c.loop-place.invariant.table
+    subst (λ done. IsTable (clauses_of c.args.pool.now.held) c.args.trail.now.entries done c.loop-place.table) (oldest_all c.loop-place.place c.args.trail.now.entries (omega (arith, c.loop-place-test.false, c.len-place-end.ensures.value))) c.loop-place.invariant.table
 
 pub returns-clause-few : goal.returns-clause-few
 returns-clause-few g c = λ apart.
-    let all = ap (λ t. pairs_of (clauses_of c.args.pool.now) t) (oldest_all c.loop-place.place c.args.trail.now.entries (omega (arith, c.loop-place-test.false, c.len-place-end.ensures.value))) in
+    let all = ap (λ t. pairs_of (clauses_of c.args.pool.now.held) t) (oldest_all c.loop-place.place c.args.trail.now.entries (omega (arith, c.loop-place-test.false, c.len-place-end.ensures.value))) in
     let most = c.loop-place.invariant.few apart in
     omega (arith, all, most)
+
+-- no row changes
+pub walk-requires-clause-spanned : goal.walk-requires-clause-spanned
+walk-requires-clause-spanned g c = subst (AreSpanned c.args.pool.now.added) (sym c.loop-place.invariant.same.rows) c.requires.spanned

@@ -11,12 +11,12 @@ use Rattle.round_prop.proofs.walk.walk.Given as goal
 -- no more nodes are left than rounds of the loop
 abbrev pub invariant-loop : goal.invariant-loop
 invariant-loop g l = record {
-  on : IsInWalk (clauses_of l.pool) l.trail.entries l.own l.last l.table;
+  on : IsInWalk (clauses_of l.pool.held) l.trail.entries l.own l.last l.table;
   walk : (done next : List Entry) (most : ℕ) → IsStep l.trail.entries done next l.own →
       AreFlagged (row_names l.fn.table.rows.items) l.fn.table.noted.flags.items l.fn.table.noted.notes.items →
-      IsWalk (clauses_of l.pool) l.trail.entries done next l.own (length l.fn.table.links.nodes.items) l.fn.steps most no_node l.fn.table →
-      IsWalk (clauses_of l.pool) l.trail.entries done next l.own (length l.fn.table.links.nodes.items - l.counter) l.steps most l.last l.table;
-  notes : HasMoreNotes l.trail.entries (clauses_of l.pool) (row_names l.fn.table.rows.items) l.fn.table.noted l.table.noted;
+      IsWalk (clauses_of l.pool.held) l.trail.entries done next l.own (length l.fn.table.links.nodes.items) l.fn.steps most no_node l.fn.table →
+      IsWalk (clauses_of l.pool.held) l.trail.entries done next l.own (length l.fn.table.links.nodes.items - l.counter) l.steps most l.last l.table;
+  notes : HasMoreNotes l.trail.entries (clauses_of l.pool.held) (row_names l.fn.table.rows.items) l.fn.table.noted l.table.noted;
   same : HaveSameRows l.fn.table l.table;
   steps : l.fn.steps ≤ l.steps;
 }

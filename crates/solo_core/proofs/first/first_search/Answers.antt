@@ -22,6 +22,7 @@ returns-clause-joined c =
         few = let few = formula.few_variables in omega arith;
       };
       attached = c.in_ok-hold_originals.ensures.attached;
+      placed = c.in_ok-hold_originals.ensures.placed;
       counts = record {
         uses = subst (AreFewUses 0) (sym c.in_ok-hold_originals.ensures.held) (few_uses-unused (named_from 0 c.clauses.result.now));
         lemmas = let none = ap length c.new-2.ensures in omega arith;

@@ -8,7 +8,7 @@ use Rattle.solo_core.proofs.first.hold_originals.Goals as goal
 -- the name of the next clause is free
 pub hold_clause-requires-clause-free : goal.hold_clause-requires-clause-free
 hold_clause-requires-clause-free c =
-    ap (λ name. lits_at (clauses_of c.loop-index.pool) name) c.original-name.ensures ∙
+    ap (λ name. lits_at (clauses_of c.loop-index.pool.held) name) c.original-name.ensures ∙
     (ap (λ held. lits_at (clauses_of held) (original c.loop-index.index)) c.loop-index.invariant.held ∙ held_from-free c.args.clauses.now c.loop-index.index c.loop-index-test.true)
 
 -- the next clause is held and attached
@@ -20,8 +20,9 @@ loop-index-preserved c =
     let is : lits ≡ get_or clauses i lits = subst (λ l. l ≡ get_or clauses i l) (sym c.lits.ensures.value) c.index-clauses-index.is in
     record {
       held = c.in_ok-hold_clause.ensures.held
-          ∙ (ap (λ name. with_clause (unused (record { name = name; lits = lits })) c.loop-index.pool) c.original-name.ensures
+          ∙ (ap (λ name. with_clause (unused (record { name = name; lits = lits })) c.loop-index.pool.held) c.original-name.ensures
           ∙ (ap (with_clause (held_original i lits)) c.loop-index.invariant.held ∙ held_from-more clauses i lits c.loop-index-test.true is));
       attached = c.in_ok-hold_clause.ensures.attached;
+      placed = c.in_ok-hold_clause.ensures.placed;
       variables = c.in_ok-hold_clause.ensures.variables ∙ c.loop-index.invariant.variables;
     }

@@ -4,4 +4,4 @@ use Rattle.solo_core.proofs.uses.count_uses.Given as goal
 
 -- the hints so far are counted
 abbrev pub invariant-loop-hint : goal.invariant-loop-hint
-invariant-loop-hint l = l.pool ≡ with_uses (take l.hint-index l.hints) l.fn.pool
+invariant-loop-hint l = record { held : l.pool.held ≡ with_uses (take l.hint-index l.hints) l.fn.pool.held; added : l.pool.added ≡ l.fn.pool.added }

@@ -1,4 +1,4 @@
-use Rattle.std.proofs.Common.{◌≡◌, ◌∙◌, ◌+◌, ◌^◌, ◌<◌, ◌≤◌, ℕ, List, length, ap, sym, subst, get_or, take, take_all, arith}
+use Rattle.std.proofs.Common.{◌∙◌, ◌+◌, ◌^◌, ◌<◌, ◌≤◌, ℕ, List, length, ap, sym, subst, get_or, take, take_all, arith}
 use Rattle.std.proofs.lemmas.List.Elements.{All-get_or}
 use Rattle.var_order.specs.Order.{OrderState, activity_at, bumped}
 use Rattle.solo_core.specs.Turn.{raised}

@@ -16,11 +16,11 @@ returns-clause-names c =
     let read : c.deref-2.result.now ≡ sorted = c.deref-2.ensures.value ∙ with_items_is c.keep_long.new.tallies sorted size in
     IfOk-weaker c.first_half.result
     (λ names. names ≡ map (λ t. t.name) (take (length c.deref-2.result.now / 2) c.deref-2.result.now))
-    (λ names. names ≡ dropped_names c.args.pool.now c.args.trail.now.entries)
+    (λ names. names ≡ dropped_names c.args.pool.now.held c.args.trail.now.entries)
     (λ names is.
     is
     ∙ (ap (λ ts. map (λ t. t.name) (take (length ts / 2) ts)) read
-    ∙ chosen c.args.pool.now c.args.trail.now.entries c.entries.result.now c.deref.result.now c.in_ok-tallies.tallies.items c.deref_mut.result.now sorted c.entries.ensures.value
+    ∙ chosen c.args.pool.now.held c.args.trail.now.entries c.entries.result.now c.deref.result.now c.in_ok-tallies.tallies.items c.deref_mut.result.now sorted c.entries.ensures.value
     (c.deref.ensures.value ∙ c.in_ok-reasons.ensures) c.in_ok-tallies.ensures.tallies (c.deref_mut.ensures.value ∙ c.keep_long.ensures) c.put_in_order.ensures.permutation
     c.put_in_order.ensures.sorted))
     c.first_half.ensures
@@ -28,12 +28,12 @@ returns-clause-names c =
 -- so what holds of these holds of the answer
 pub returns-clause-dropped : goal.returns-clause-dropped
 returns-clause-dropped c =
-    IfOk-weaker c.first_half.result (λ names. names ≡ dropped_names c.args.pool.now c.args.trail.now.entries) (MayBeDropped c.args.pool.now)
-    (λ names is. subst (MayBeDropped c.args.pool.now) (sym is) (held_lemmas_go c.args.pool.now c.args.trail.now.entries c.in_ok-tallies.ensures.ordered))
+    IfOk-weaker c.first_half.result (λ names. names ≡ dropped_names c.args.pool.now.held c.args.trail.now.entries) (MayBeDropped c.args.pool.now.held)
+    (λ names is. subst (MayBeDropped c.args.pool.now.held) (sym is) (held_lemmas_go c.args.pool.now.held c.args.trail.now.entries c.in_ok-tallies.ensures.ordered))
     (returns-clause-names c)
 
 pub returns-clause-reasons : goal.returns-clause-reasons
 returns-clause-reasons c =
-    IfOk-weaker c.first_half.result (λ names. names ≡ dropped_names c.args.pool.now c.args.trail.now.entries) (HaveOtherReasons c.args.trail.now.entries)
-    (λ names is. subst (HaveOtherReasons c.args.trail.now.entries) (sym is) (reasons_stay c.args.pool.now c.args.trail.now.entries))
+    IfOk-weaker c.first_half.result (λ names. names ≡ dropped_names c.args.pool.now.held c.args.trail.now.entries) (HaveOtherReasons c.args.trail.now.entries)
+    (λ names is. subst (HaveOtherReasons c.args.trail.now.entries) (sym is) (reasons_stay c.args.pool.now.held c.args.trail.now.entries))
     (returns-clause-names c)

@@ -10,7 +10,7 @@ use Rattle.clause_pool.proofs.pool.Pool.held.Goals as goal
 pub returns-then-is_front-clause-value : goal.returns-then-is_front-clause-value
 returns-then-is_front-clause-value c =
     let front : is_front (length c.self.inside.originals) c.args.name ≡ true = ap (λ count. is_front count c.args.name) (sym c.len.ensures) ∙ (sym c.is_front.ensures ∙ c.if-is_front.true) in
-    c.if-is_front.true ∙ front_held c.self.inside.table c.self.inside.originals c.args.self.now c.args.name (record { apart = c.self.invariant.apart; is = c.self.view_is }) front
+    c.if-is_front.true ∙ front_held c.self.inside.table c.self.inside.originals c.args.self.now.held c.args.name (record { apart = c.self.invariant.apart; is = ap (λ v. v.held) c.self.view_is }) front
 
 -- any other clause is held where its name has a place
 pub returns-else-is_front-clause-value : goal.returns-else-is_front-clause-value
@@ -18,11 +18,11 @@ returns-else-is_front-clause-value c =
     let behind : is_front (length c.self.inside.originals) c.args.name ≡ false = ap (λ count. is_front count c.args.name) (sym c.len.ensures) ∙ (sym c.is_front.ensures ∙ c.if-is_front.false) in
     c.is_some.ensures
     ∙ (ap is_some c.find.ensures
-    ∙ sym (behind_held c.self.inside.table c.self.inside.originals c.args.self.now c.args.name (record { apart = c.self.invariant.apart; is = c.self.view_is }) behind))
+    ∙ sym (behind_held c.self.inside.table c.self.inside.originals c.args.self.now.held c.args.name (record { apart = c.self.invariant.apart; is = ap (λ v. v.held) c.self.view_is }) behind))
 
 -- the clauses stand in order
 pub returns-then-is_front-clause-ordered : goal.returns-then-is_front-clause-ordered
-returns-then-is_front-clause-ordered c = subst IsOrdered c.self.view_is (ordered-held_of (c.self.inside.table ++ originals_of c.self.inside.originals) c.self.invariant.apart)
+returns-then-is_front-clause-ordered c = subst IsOrdered (ap (λ v. v.held) c.self.view_is) (ordered-held_of (c.self.inside.table ++ originals_of c.self.inside.originals) c.self.invariant.apart)
 
 pub returns-else-is_front-clause-ordered : goal.returns-else-is_front-clause-ordered
-returns-else-is_front-clause-ordered c = subst IsOrdered c.self.view_is (ordered-held_of (c.self.inside.table ++ originals_of c.self.inside.originals) c.self.invariant.apart)
+returns-else-is_front-clause-ordered c = subst IsOrdered (ap (λ v. v.held) c.self.view_is) (ordered-held_of (c.self.inside.table ++ originals_of c.self.inside.originals) c.self.invariant.apart)

@@ -1,4 +1,4 @@
-use Rattle.std.proofs.Common.{◌≡◌, ◌++◌, reverse, subst}
+use Rattle.std.proofs.Common.{◌≡◌, ◌++◌, reverse, ap, subst}
 use Rattle.std.specs.List.Sorted.{IsPermutation}
 use Rattle.std.proofs.lemmas.Result.{IfOk-weaker}
 use Rattle.clause_pool.specs.Pooled.{originals_of}
@@ -15,11 +15,11 @@ tallies-requires c = apart_left c.self.inside.table (originals_of c.self.inside.
 
 -- the clauses stand in order
 pub returns-clause-ordered : goal.returns-clause-ordered
-returns-clause-ordered c = subst IsOrdered c.self.view_is (ordered-held_of (c.self.inside.table ++ originals_of c.self.inside.originals) c.self.invariant.apart)
+returns-clause-ordered c = subst IsOrdered (ap (λ v. v.held) c.self.view_is) (ordered-held_of (c.self.inside.table ++ originals_of c.self.inside.originals) c.self.invariant.apart)
 
 -- in order they are the same, but for their places
 pub returns-clause-tallies : goal.returns-clause-tallies
 returns-clause-tallies c =
     IfOk-weaker c.tallies.result (λ tallies. reverse tallies.items ≡ tallies_but c.args.but.now c.self.inside.table)
-    (λ tallies. IsPermutation (tallies_but c.args.but.now c.args.self.now) tallies.items)
-    (λ tallies told. tallies_in_order c.args.but.now c.self.inside.table c.self.inside.originals c.args.self.now tallies.items c.self.view_is told) c.tallies.ensures
+    (λ tallies. IsPermutation (tallies_but c.args.but.now c.args.self.now.held) tallies.items)
+    (λ tallies told. tallies_in_order c.args.but.now c.self.inside.table c.self.inside.originals c.args.self.now.held tallies.items (ap (λ v. v.held) c.self.view_is) told) c.tallies.ensures

@@ -10,8 +10,8 @@ use Rattle.clause_pool.proofs.pool.Pool.volume.Goals as goal
 pub returns-clause-value : goal.returns-clause-value
 returns-clause-value c =
     let inside = c.self.inside in
-    c.volume.ensures ∙ (sym (volume_of-append inside.table inside.originals) ∙ (sym (volume_of-held_of (inside.table ++ originals_of inside.originals)) ∙ ap volume_of c.self.view_is))
+    c.volume.ensures ∙ (sym (volume_of-append inside.table inside.originals) ∙ (sym (volume_of-held_of (inside.table ++ originals_of inside.originals)) ∙ ap (λ v. volume_of v.held) c.self.view_is))
 
 -- the clauses stand in order
 pub returns-clause-ordered : goal.returns-clause-ordered
-returns-clause-ordered c = subst IsOrdered c.self.view_is (ordered-held_of (c.self.inside.table ++ originals_of c.self.inside.originals) c.self.invariant.apart)
+returns-clause-ordered c = subst IsOrdered (ap (λ v. v.held) c.self.view_is) (ordered-held_of (c.self.inside.table ++ originals_of c.self.inside.originals) c.self.invariant.apart)

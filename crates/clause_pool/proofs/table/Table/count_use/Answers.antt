@@ -1,4 +1,4 @@
-use Rattle.std.proofs.Common.{◌<◌, ◌+◌, ◌^◌, reverse, set, map, refl, ap, ◌∙◌, arith}
+use Rattle.std.proofs.Common.{◌<◌, ◌+◌, ◌^◌, reverse, set, map, ap, ◌∙◌, arith}
 use Rattle.clause_pool.specs.Slots.{clauses_in, counted_at, without_count}
 use Rattle.clause_pool.proofs.Rows.{inside_slots, row_read}
 use Rattle.clause_pool.proofs.Counting.{one_more, recounted_at, rows_counted, table_recounted}
@@ -15,8 +15,7 @@ pub overflow_add-slot : goal.overflow_add-slot
 overflow_add-slot c =
     let slot = c.index_mut-slot.result.now in
     let few : slot.uses + 1 < 2 ^ 64 = c.requires.fits _
-    (row_read c.self.inside.literals.items c.self.inside.literals.items c.self.inside.slots.items c.self.inside.slots.items c.args.self.now c.args.place _ slot
-    c.self.invariant.arena c.self.view_is refl refl c.requires.within refl c.index_mut-slot.ensures.value).is in
+    (row_read c.self.inside.literals.items c.self.inside.slots.items c.args.self.now c.args.place slot c.self.invariant.arena c.self.view_is c.requires.within c.index_mut-slot.ensures.value) in
     omega (arith, few)
 
 -- uses alone changed

@@ -1,4 +1,4 @@
-use Rattle.std.proofs.Common.{refl, ap, arith}
+use Rattle.std.proofs.Common.{ap, arith}
 use Rattle.std.specs.Prelude.{option_map}
 use Rattle.clause_pool.proofs.Rows.{inside_slots, row_read}
 use Rattle.clause_pool.proofs.table.Table.uses.Goals as goal
@@ -11,7 +11,4 @@ index-requires c =
 
 -- its uses are the clause's
 pub returns : goal.returns
-returns c =
-    ap (λ o. option_map (λ d. d.uses) o)
-    (row_read c.self.inside.literals.items c.self.inside.literals.items c.self.inside.slots.items c.self.inside.slots.items c.args.self.now c.args.place _ c.index.result.now
-    c.self.invariant.arena c.self.view_is refl refl c.requires refl c.index.ensures).is
+returns c = ap (λ o. option_map (λ d. d.uses) o) (row_read c.self.inside.literals.items c.self.inside.slots.items c.args.self.now c.args.place c.index.result.now c.self.invariant.arena c.self.view_is c.requires c.index.ensures)

@@ -9,7 +9,7 @@ use Rattle.first_uip.proofs.marks.Marks.mark_reason.Goals as goal
 -- the variables of the clause that is the reason
 pub returns-in-Some-clause-flags : goal.returns-in-Some-clause-flags
 returns-in-Some-clause-flags c = λ v.
-    let look = lits_at (clauses_of c.args.pool.now) in
+    let look = lits_at (clauses_of c.args.pool.now.held) in
     let marked = c.args.self.now.marked.items in
     let listed = c.requires.counted.listed.flags in
     let lits = c.lits_of.result.now in

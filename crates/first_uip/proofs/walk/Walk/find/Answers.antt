@@ -17,7 +17,7 @@ use Rattle.first_uip.proofs.walk.Walk.find.Goals as goal
 pub returns-in_default-clause-marks : goal.returns-in_default-clause-marks
 returns-in_default-clause-marks c = λ v.
     let none : None ≡ place_of c.args.trail.now.entries c.args.var = sym c.in_default.is ∙ c.place.ensures.value in
-    ap (λ o. is_marked (root_variables (lits_at (clauses_of c.args.pool.now)) o) v || is_flagged c.args.self.now.marks.flags.items v)
+    ap (λ o. is_marked (root_variables (lits_at (clauses_of c.args.pool.now.held)) o) v || is_flagged c.args.self.now.marks.flags.items v)
     (entry_nowhere c.args.place c.args.var c.args.trail.now.entries c.requires.trail.distinct none)
 
 pub returns-in_default-clause-places : goal.returns-in_default-clause-places
@@ -30,7 +30,7 @@ returns-in_default-clause-places c = λ p.
 -- one whose entry was met
 pub returns-then-at-place-clause-marks : goal.returns-then-at-place-clause-marks
 returns-then-at-place-clause-marks c = λ v.
-    ap (λ o. is_marked (root_variables (lits_at (clauses_of c.args.pool.now)) o) v || is_flagged c.args.self.now.marks.flags.items v)
+    ap (λ o. is_marked (root_variables (lits_at (clauses_of c.args.pool.now.held)) o) v || is_flagged c.args.self.now.marks.flags.items v)
     (entry_above c.args.place c.in-Some.at c.args.var c.args.trail.now.entries c.requires.trail.distinct (sym c.in-Some.is ∙ c.place.ensures.value) c.if-at-place.true)
 
 pub returns-then-at-place-clause-places : goal.returns-then-at-place-clause-places
@@ -43,7 +43,7 @@ returns-then-at-place-clause-places c = λ p.
 -- an entry before the place: its reason is held, over variables that have flags
 pub mark_reason-requires-clause-held : goal.mark_reason-requires-clause-held
 mark_reason-requires-clause-held c =
-    let look = lits_at (clauses_of c.args.pool.now) in
+    let look = lits_at (clauses_of c.args.pool.now.held) in
     let room = vec_len c.args.self.now.marks.flags in
     held_at (λ (e : Entry). IsReasonBelow room look e.reason) c.args.trail.now.entries c.in-Some.at c.entry-entry.result c.requires.reasons c.entry-entry.ensures.value
 
@@ -55,7 +55,7 @@ returns-clause-marks c = λ v.
     let found : Some c.entry-entry.result ≡ entry_of (before c.args.place entries) c.args.var =
     sym (entry_there c.args.var c.in-Some.at entries c.entry-entry.result (sym is) c.entry-entry.ensures.value)
     ∙ entry_below c.args.place c.in-Some.at c.args.var entries c.requires.trail.distinct is c.if-at-place.false in
-    c.mark_reason.ensures.flags v ∙ ap (λ o. is_marked (root_variables (lits_at (clauses_of c.args.pool.now)) o) v || is_flagged c.args.self.now.marks.flags.items v) found
+    c.mark_reason.ensures.flags v ∙ ap (λ o. is_marked (root_variables (lits_at (clauses_of c.args.pool.now.held)) o) v || is_flagged c.args.self.now.marks.flags.items v) found
 
 -- its place is noted
 pub returns-clause-places : goal.returns-clause-places

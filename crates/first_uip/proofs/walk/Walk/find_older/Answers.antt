@@ -13,7 +13,7 @@ use Rattle.first_uip.proofs.walk.Walk.find_older.Goals as goal
 
 pub loop-index-preserved : goal.loop-index-preserved
 loop-index-preserved c =
-    let look = lits_at (clauses_of c.args.pool.now) in
+    let look = lits_at (clauses_of c.args.pool.now.held) in
     let entries = c.args.trail.now.entries in
     let rest = before c.args.place entries in
     let index = c.loop-index.index in
@@ -43,7 +43,7 @@ loop-index-init c = record {
   flags = refl;
   counted = c.requires.counted;
   reached = λ v. refl;
-  sound = λ t are v is. trace_keeps (lits_at (clauses_of c.args.pool.now)) c.args.level (before c.args.place c.args.trail.now.entries) t v (sym (are v) ∙ is);
+  sound = λ t are v is. trace_keeps (lits_at (clauses_of c.args.pool.now.held)) c.args.level (before c.args.place c.args.trail.now.entries) t v (sym (are v) ∙ is);
   places = λ p. ap (count_by (λ at. at == p)) c.requires.empty.1;
   few = let none = c.requires.empty.0 in omega arith;
   room = record { lits = refl; hints = refl; touched = refl; places = refl };
@@ -53,7 +53,7 @@ loop-index-init c = record {
 -- in the end all were: where the list ends, and where each flag would have been passed
 pub returns-then-index-len-clause-marks : goal.returns-then-index-len-clause-marks
 returns-then-index-len-clause-marks c = λ t are.
-    let look = lits_at (clauses_of c.args.pool.now) in
+    let look = lits_at (clauses_of c.args.pool.now.held) in
     let now = c.loop-index.invariant in
     let marks = c.loop-index.self.marks in
     let long : vec_len marks.marked ≡ length marks.marked.items = search rules in
@@ -70,7 +70,7 @@ returns-then-index-len-clause-found c =
 
 pub returns-clause-marks : goal.returns-clause-marks
 returns-clause-marks c = λ t are.
-    let look = lits_at (clauses_of c.args.pool.now) in
+    let look = lits_at (clauses_of c.args.pool.now.held) in
     let now = c.loop-index.invariant in
     let all = listed_few c.loop-index.self.marks (search rules) (search rules) now.counted.listed in
     flags_found look c.args.level (before c.args.place c.args.trail.now.entries) c.loop-index.index c.args.self.now.marks c.loop-index.self.marks t

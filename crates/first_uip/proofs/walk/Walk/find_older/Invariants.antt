@@ -15,9 +15,9 @@ invariant-loop-index l = record {
   flags : vec_len l.self.marks.flags ≡ vec_len l.initial.self.marks.flags;
   counted : IsCounted l.level (before l.place l.trail.entries) l.self.marks;
   reached : (v : ℕ) → is_flagged l.self.marks.flags.items v ≡
-      (is_reached (lits_at (clauses_of l.pool)) (before l.place l.trail.entries) (take l.index l.self.marks.marked.items) v || is_flagged l.initial.self.marks.flags.items v);
+      (is_reached (lits_at (clauses_of l.pool.held)) (before l.place l.trail.entries) (take l.index l.self.marks.marked.items) v || is_flagged l.initial.self.marks.flags.items v);
   sound : (t : Trace) → AreFlagsOf t.marked l.initial.self.marks.flags.items → (v : ℕ) → is_flagged l.self.marks.flags.items v ≡ true →
-      is_marked (trace (lits_at (clauses_of l.pool)) l.level (before l.place l.trail.entries) t).marked v ≡ true;
+      is_marked (trace (lits_at (clauses_of l.pool.held)) l.level (before l.place l.trail.entries) t).marked v ≡ true;
   places : (p : ℕ) → count_by (λ at. at == p) l.self.places.items ≡
       sum_by (λ v. one_if (λ at. at == p) (place_of (before l.place l.trail.entries) v)) (take l.index l.self.marks.marked.items);
   few : vec_len l.self.places ≤ l.index;

@@ -20,7 +20,7 @@ mark_reason-requires-clause-counted c =
 -- it is touched, and then resolved or stays
 pub returns-clause-traces : goal.returns-clause-traces
 returns-clause-traces c = λ t stands.
-    let look = lits_at (clauses_of c.args.pool.now) in
+    let look = lits_at (clauses_of c.args.pool.now.held) in
     let level = c.args.level in
     let e = c.args.entry.now in
     let older = before c.args.place c.args.trail.now.entries in

@@ -22,7 +22,7 @@ meet-requires-clause-next c = before_next c.args.trail.now.entries c.args.place 
 -- its reason is held, over variables that have flags
 pub meet-requires-clause-reason : goal.meet-requires-clause-reason
 meet-requires-clause-reason c =
-    let look = lits_at (clauses_of c.args.pool.now) in
+    let look = lits_at (clauses_of c.args.pool.now.held) in
     let room = vec_len c.args.self.now.marks.flags in
     held_at (λ (e : Entry). IsReasonBelow room look e.reason) c.args.trail.now.entries c.args.place c.entry-entry.result c.requires.reasons c.entry-entry.ensures.value
 
@@ -41,7 +41,7 @@ returns-else-is_marked-clause-traces c = λ t stands.
     let flags = c.args.self.now.marks.flags.items in
     let entries = c.args.trail.now.entries in
     subst (Traces c.args.level c.args.self.now)
-    (sym (step_unmarked (lits_at (clauses_of c.args.pool.now)) c.args.level (before (c.args.place + 1) entries) (before c.args.place entries) e flags t
+    (sym (step_unmarked (lits_at (clauses_of c.args.pool.now.held)) c.args.level (before (c.args.place + 1) entries) (before c.args.place entries) e flags t
     (before_next entries c.args.place e c.entry-entry.ensures.value) stands.flagged
     (unset flags e c.var.result c.is_marked.result c.var.ensures.value c.is_marked.ensures c.if-is_marked.false)))
     stands

@@ -18,7 +18,7 @@ use Rattle.first_uip.proofs.walk.Walk.walk.Goals as goal
 -- the conflict is held, over variables that have flags
 pub cite-requires-clause-held : goal.cite-requires-clause-held
 cite-requires-clause-held c =
-    let look = lits_at (clauses_of c.args.pool.now) in
+    let look = lits_at (clauses_of c.args.pool.now.held) in
     subst (λ bound. IsHeldBelow bound (look c.args.conflict)) (sym (ap (λ (m : Marks). vec_len m.flags) c.begin.ensures.marks ∙ c.requires.idle.marks.len))
     (falsified_below (length c.args.trail.now.saved) c.args.trail.now.entries (look c.args.conflict) c.level-level.ensures.trail.within c.requires.conflict)
 
@@ -36,14 +36,14 @@ cite-requires-clause-room c = let empty = c.begin.ensures.empty.1 in omega (arit
 -- the reasons are held, over variables that have flags
 pub walk_level-place-requires-clause-reasons : goal.walk_level-place-requires-clause-reasons
 walk_level-place-requires-clause-reasons c =
-    let look = lits_at (clauses_of c.args.pool.now) in
+    let look = lits_at (clauses_of c.args.pool.now.held) in
     subst (λ bound. AreReasonsBelow bound look c.args.trail.now.entries)
     (sym (c.cite.ensures.flags ∙ (ap (λ (m : Marks). vec_len m.flags) c.begin.ensures.marks ∙ c.requires.idle.marks.len)))
     (reasons_below look (length c.args.trail.now.saved) c.args.trail.now.entries c.level-level.ensures.trail.within c.requires.fits)
 
 pub find_older-requires-clause-reasons : goal.find_older-requires-clause-reasons
 find_older-requires-clause-reasons c =
-    let look = lits_at (clauses_of c.args.pool.now) in
+    let look = lits_at (clauses_of c.args.pool.now.held) in
     subst (λ bound. AreReasonsBelow bound look c.args.trail.now.entries)
     (sym (c.walk_level-place.ensures.flags ∙ (c.cite.ensures.flags ∙ (ap (λ (m : Marks). vec_len m.flags) c.begin.ensures.marks ∙ c.requires.idle.marks.len))))
     (reasons_below look (length c.args.trail.now.saved) c.args.trail.now.entries c.level-level.ensures.trail.within c.requires.fits)
@@ -81,7 +81,7 @@ gather_older-requires-clause-spare c =
 -- the walk goes over the current level entry by entry, and over the rest by its marked entries
 pub returns-clause-gathered : goal.returns-clause-gathered
 returns-clause-gathered c =
-    let look = lits_at (clauses_of c.args.pool.now) in
+    let look = lits_at (clauses_of c.args.pool.now.held) in
     let level = c.level-level.result in
     let entries = c.args.trail.now.entries in
     let trail = c.level-level.ensures.trail in

@@ -22,7 +22,7 @@ loop-place-preserved c =
       };
       room = room_same c.args.self.now c.loop-place.self c.step.new.self c.loop-place.invariant.room grows.room;
       walked = λ t stands.
-          walked_more (lits_at (clauses_of c.args.pool.now)) c.args.level c.loop-place.place c.args.trail.now.entries c.loop-place.self c.step.new.self t (omega arith) (omega arith)
+          walked_more (lits_at (clauses_of c.args.pool.now.held)) c.args.level c.loop-place.place c.args.trail.now.entries c.loop-place.self c.step.new.self t (omega arith) (omega arith)
           c.step.ensures.traces (c.loop-place.invariant.walked t stands);
     }
 

@@ -16,5 +16,5 @@ invariant-loop-place l = record {
   counted : IsCounted l.level (before l.place l.trail.entries) l.self.marks;
   spare : HasSpare l.place l.self;
   room : IsSameRoom l.initial.self l.self;
-  walked : (t : Trace) → Traces l.level l.initial.self t → IsWalked (lits_at (clauses_of l.pool)) l.level l.place l.trail.entries l.self t;
+  walked : (t : Trace) → Traces l.level l.initial.self t → IsWalked (lits_at (clauses_of l.pool.held)) l.level l.place l.trail.entries l.self t;
 }

@@ -4,8 +4,10 @@ use Rattle.lit_base.specs.Literal.{Literal}
 use Rattle.lit_base.specs.Held.{clauses_of}
 use Rattle.lit_base.specs.Named.{lits_at}
 use Rattle.lit_base.specs.Rounds.{NamedClause}
+use Rattle.clause_pool.specs.Spans.{PoolState}
 use Rattle.round_prop.specs.contracts.rounds.Rounds.{the_view}
 use Rattle.round_prop.specs.Attached.{RoundsState, IsAttached, IsAttachedBy, AreRoomy}
+use Rattle.round_prop.specs.Spanned.{AreSpanned, IsPlacedIn}
 use Rattle.round_prop.specs.FreshClauses.{found_lits, clause_of_fresh, clauses_of_fresh}
 use Rattle.round_prop.specs.declared.fresh.Fresh.{Fresh}
 use Rattle.round_prop.proofs.Arriving.{attached_more, attached_same, fresh_last, on_err_always}
@@ -33,7 +35,7 @@ unfolding IsAttached
 returns-clause-attached c = λ attached fresh seen lits is found free.
     let was = subst (λ (r : RoundsState). IsAttachedBy r attached fresh seen) (sym c.self.view_is) is in
     let one : Fresh = record { name = c.args.name; pool = c.of-pool.result } in
-    let of_pool = ap (λ held. found_lits (lits_at (clauses_of held) c.args.name)) c.of-pool.ensures ∙ ap found_lits found in
+    let of_pool = ap (λ (p : PoolState). found_lits (lits_at (clauses_of p.held) c.args.name)) c.of-pool.ensures ∙ ap found_lits found in
     let clause : clause_of_fresh one ≡ record { name = c.args.name; lits = lits } =
     ap (λ (ls : List Literal). let d : NamedClause = record { name = c.args.name; lits = ls } in d) of_pool in
     let arrives =
@@ -70,3 +72,12 @@ returns-in_err-make_room-clause-err c = on_err_always c.from_residual.result
       trail = c.self.inside.trail;
     }))
     attached fresh seen c.in_err-make_room.ensures.table c.in_err-make_room.ensures.shorts (ap clauses_of_fresh c.in_err-make_room.ensures.fresh) refl refl was)
+
+-- no row changes
+pub returns-in_err-make_room-clause-placed : goal.returns-in_err-make_room-clause-placed
+unfolding IsPlacedIn
+returns-in_err-make_room-clause-placed c = λ added placed. subst (AreSpanned added) (sym c.in_err-make_room.ensures.table.rows) (subst (λ (r : RoundsState). IsPlacedIn r added) (sym c.self.view_is) placed)
+
+pub returns-clause-placed : goal.returns-clause-placed
+unfolding IsPlacedIn
+returns-clause-placed c = λ added placed. subst (AreSpanned added) (sym c.in_ok-make_room.ensures.table.rows) (subst (λ (r : RoundsState). IsPlacedIn r added) (sym c.self.view_is) placed)

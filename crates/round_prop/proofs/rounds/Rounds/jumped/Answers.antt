@@ -8,6 +8,7 @@ use Rattle.trail_book.specs.TrailState.{TrailState}
 use Rattle.round_prop.specs.contracts.rounds.Rounds.{the_view}
 use Rattle.round_prop.specs.Attached.{RoundsState, IsAttached, IsAttachedBy}
 use Rattle.round_prop.specs.Readied.{row_names}
+use Rattle.round_prop.specs.Spanned.{IsPlacedIn}
 use Rattle.round_prop.specs.Shorts.{note_of_short}
 use Rattle.round_prop.specs.declared.row.Row.{Row}
 use Rattle.round_prop.specs.declared.short.Short.{Short}
@@ -90,3 +91,11 @@ returns-clause-above c = λ attached fresh seen more is front.
     let seen_is = ap length (ap (λ (r : RoundsState). r.seen) c.self.view_is ∙ is.seen_are) in
     let least = not_fewer more seen c.args.trail.now.entries front in
     absurd (omega (arith, seen_is, least, c.self.invariant.1, c.len-len.ensures.value, c.if-len-self.false))
+
+-- no row changes
+pub returns-then-len-self-clause-placed : goal.returns-then-len-self-clause-placed
+returns-then-len-self-clause-placed c = λ added placed. placed
+
+pub returns-clause-placed : goal.returns-clause-placed
+unfolding IsPlacedIn
+returns-clause-placed c = λ added placed. subst (λ (r : RoundsState). IsPlacedIn r added) (sym c.self.view_is) placed

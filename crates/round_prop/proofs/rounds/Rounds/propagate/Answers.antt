@@ -4,11 +4,13 @@ use Rattle.std.proofs.lemmas.List.{length-map, length-reverse}
 use Rattle.lit_base.specs.Held.{clauses_of, names_of}
 use Rattle.lit_base.specs.Fits.{HasDistinctVariables}
 use Rattle.lit_base.specs.declared.trail.Entry.{Entry}
+use Rattle.clause_pool.specs.Spans.{PoolState}
 use Rattle.trail_book.specs.TrailState.{TrailState}
 use Rattle.round_prop.specs.contracts.rounds.Rounds.{the_view}
 use Rattle.round_prop.specs.Attached.{RoundsState, IsAttached, IsAttachedBy, AreRoomy}
 use Rattle.round_prop.specs.FreshClauses.{clauses_of_fresh}
 use Rattle.round_prop.specs.Readied.{IsReady, oldest}
+use Rattle.round_prop.specs.Spanned.{AreSpanned, IsPlacedIn}
 use Rattle.round_prop.specs.declared.fresh.Fresh.{Fresh}
 use Rattle.round_prop.proofs.Beginning.{fresh_names-are, attached_ready, ready_attached, roomy_after, lits_in-last}
 use Rattle.round_prop.proofs.Serving.{attached_fields, attached_whole, seen_inside, seen_oldest}
@@ -17,7 +19,7 @@ use Rattle.round_prop.proofs.rounds.Rounds.propagate.Goals as goal
 pub begin_fresh-requires-clause-attached : goal.begin_fresh-requires-clause-attached
 begin_fresh-requires-clause-attached g c = (
   c.requires.attached.seen,
-  attached_whole (the_view c.self.inside) c.args.self.now (clauses_of c.args.pool.now) c.args.trail.now.entries c.self.view_is c.requires.attached c.self.inside.fresh.items refl c.len.ensures.trail.distinct,
+  attached_whole (the_view c.self.inside) c.args.self.now (clauses_of c.args.pool.now.held) c.args.trail.now.entries c.self.view_is c.requires.attached c.self.inside.fresh.items refl c.len.ensures.trail.distinct,
 )
 
 -- the variables are the trail's
@@ -30,7 +32,7 @@ begin_fresh-requires-clause-roomy g c =
 pub run_rounds-found-requires-clause-ready : goal.run_rounds-found-requires-clause-ready
 run_rounds-found-requires-clause-ready g c =
     let r = the_view c.self.inside in
-    let clauses = clauses_of c.args.pool.now in
+    let clauses = clauses_of c.args.pool.now.held in
     let n = length c.args.trail.now.saved in
     let to = c.requires.attached in
     let whole = attached_whole r c.args.self.now clauses c.args.trail.now.entries c.self.view_is to c.self.inside.fresh.items refl c.len.ensures.trail.distinct in
@@ -41,7 +43,13 @@ run_rounds-found-requires-clause-ready g c =
 
 pub run_rounds-found-requires-clause-seen : goal.run_rounds-found-requires-clause-seen
 run_rounds-found-requires-clause-seen g c =
-    seen_inside (the_view c.self.inside) c.args.self.now (clauses_of c.args.pool.now) c.args.trail.now.entries c.self.view_is c.requires.attached c.self.inside.seen c.self.invariant.1
+    seen_inside (the_view c.self.inside) c.args.self.now (clauses_of c.args.pool.now.held) c.args.trail.now.entries c.self.view_is c.requires.attached c.self.inside.seen c.self.invariant.1
+
+-- rows tell where their clauses stand
+pub run_rounds-found-requires-clause-spanned : goal.run_rounds-found-requires-clause-spanned
+unfolding IsPlacedIn
+run_rounds-found-requires-clause-spanned g c =
+    c.begin_fresh.ensures.spanned (subst (λ (r : RoundsState). IsPlacedIn r c.args.pool.now.added) (sym c.self.view_is) c.requires.placed)
 
 -- as much room is left, and the whole trail was seen
 pub invariant_of-self : goal.invariant_of-self
@@ -50,7 +58,7 @@ invariant_of-self g c =
     let shorts = vec_len c.begin_fresh.new.shorts in
     let most = vec_capacity c.begin_fresh.new.shorts in
     let none : 0 ≡ vec_len c.begin_fresh.new.fresh = omega (arith, ap length c.begin_fresh.ensures.none) in
-    let roomy = roomy_after (length c.args.trail.now.saved) (clauses_of c.args.pool.now) c.run_rounds-found.new.trail.entries c.begin_fresh.new.table c.run_rounds-found.new.table
+    let roomy = roomy_after (length c.args.trail.now.saved) (clauses_of c.args.pool.now.held) c.run_rounds-found.new.trail.entries c.begin_fresh.new.table c.run_rounds-found.new.table
     shorts most c.begin_fresh.ensures.roomy c.run_rounds-found.ensures.ready c.run_rounds-found.ensures.rows in (
       subst (λ n. AreRoomy c.self.inside.variables c.run_rounds-found.new.table shorts most n) none
           (subst (λ n. AreRoomy n c.run_rounds-found.new.table shorts most 0) (sym (ap (λ (r : RoundsState). r.variables) c.self.view_is ∙ c.requires.variables)) roomy),
@@ -60,9 +68,9 @@ invariant_of-self g c =
 
 -- exactly the held clauses are attached, none of them is fresh, and the whole trail was seen
 pub returns-clause-propagated : goal.returns-clause-propagated
-unfolding IsAttached
+unfolding IsAttached IsPlacedIn
 returns-clause-propagated g c =
-    let clauses = clauses_of c.args.pool.now in
+    let clauses = clauses_of c.args.pool.now.held in
     let n = length c.args.trail.now.saved in
     let to = c.requires.attached in
     let none = ap clauses_of_fresh c.begin_fresh.ensures.none in
@@ -87,10 +95,11 @@ returns-clause-propagated g c =
               seen = c.len-self-inside.result;
               trail = c.of-2.result;
             }))
-            clauses c.run_rounds-found.new.trail.entries name none (ap clauses_of c.of.ensures) after.known;
+            clauses c.run_rounds-found.new.trail.entries name none (ap (λ (p : PoolState). clauses_of p.held) c.of.ensures) after.known;
         distinct = c.len-self-inside.ensures.trail.distinct;
         are = after;
       };
+      placed = subst (AreSpanned c.args.pool.now.added) (sym c.run_rounds-found.ensures.rows.rows) (c.begin_fresh.ensures.spanned (subst (λ (r : RoundsState). IsPlacedIn r c.args.pool.now.added) (sym c.self.view_is) c.requires.placed));
       variables = ap (λ (r : RoundsState). r.variables) c.self.view_is ∙ c.requires.variables;
     }
 
@@ -99,7 +108,7 @@ pub returns-clause-few : goal.returns-clause-few
 unfolding IsAttached
 returns-clause-few g c = λ fresh seen newer is front.
     let r = the_view c.self.inside in
-    let clauses = clauses_of c.args.pool.now in
+    let clauses = clauses_of c.args.pool.now.held in
     let to = c.requires.attached in
     let was = attached_fields r c.args.self.now clauses c.args.trail.now.entries c.self.view_is to in
     let one = subst (λ (s : RoundsState). IsAttachedBy s clauses fresh seen) (sym c.self.view_is) is in

@@ -9,4 +9,4 @@ use Rattle.solo_core.proofs.search.Search.import.Goals as goal
 pub returns-clause-joined : goal.returns-clause-joined
 returns-clause-joined c =
     imported_joined (the_view c.self.inside) (clauses_posted c.args.mails.now) c.hold_mails.new.pool c.clear.new.self c.hold_mails.new.rounds (subst IsJoined (sym c.self.view_is) c.requires.joined)
-    c.in_ok-hold_mails.ensures.held c.clear.ensures c.in_ok-hold_mails.ensures.variables c.in_ok-hold_mails.ensures.attached
+    c.in_ok-hold_mails.ensures.held c.clear.ensures c.in_ok-hold_mails.ensures.variables c.in_ok-hold_mails.ensures.attached c.in_ok-hold_mails.ensures.placed

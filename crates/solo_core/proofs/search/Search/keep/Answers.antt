@@ -51,7 +51,7 @@ hold_lemma-requires-clause-few c =
 pub hold_lemma-requires-clause-attached : goal.hold_lemma-requires-clause-attached
 hold_lemma-requires-clause-attached c =
     let ready : IsReady (the_view c.self.inside) = subst IsReady (sym c.self.view_is) c.requires.ready in
-    c.jump_back.ensures.attached (clauses_of c.self.inside.pool) ready.joined.attached ready.sound.holds.quiet
+    c.jump_back.ensures.attached (clauses_of c.self.inside.pool.held) ready.joined.attached ready.sound.holds.quiet
 
 -- the parts fit one another
 pub returns-clause-joined : goal.returns-clause-joined
@@ -61,4 +61,10 @@ returns-clause-joined c =
     let is : c.record_lemma.new.self ≡ after_lesson (the_view c.self.inside) c.hold_lemma.new.rounds c.hold_lemma.new.pool c.jump_back.new.trail c.jump_back.new.order lemma = c.in_ok-record_lemma.ensures in
     subst IsJoined (sym is)
     (learnt_joined (the_view c.self.inside) c.hold_lemma.new.rounds c.hold_lemma.new.pool c.jump_back.new.trail c.jump_back.new.order lemma c.args.lesson.back ready c.jump_back.ensures.trail
-    c.in_ok-hold_lemma.ensures.pool (c.in_ok-hold_lemma.ensures.variables ∙ c.jump_back.ensures.variables) c.in_ok-hold_lemma.ensures.attached c.jump_back.ensures.activities c.jump_back.ensures.present)
+    c.in_ok-hold_lemma.ensures.pool (c.in_ok-hold_lemma.ensures.variables ∙ c.jump_back.ensures.variables) c.in_ok-hold_lemma.ensures.attached c.in_ok-hold_lemma.ensures.placed c.jump_back.ensures.activities c.jump_back.ensures.present)
+
+-- and its places are remembered
+pub hold_lemma-requires-clause-placed : goal.hold_lemma-requires-clause-placed
+hold_lemma-requires-clause-placed c =
+    let ready : IsReady (the_view c.self.inside) = subst IsReady (sym c.self.view_is) c.requires.ready in
+    c.jump_back.ensures.placed c.self.inside.pool.added ready.joined.placed
