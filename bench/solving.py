@@ -2,7 +2,7 @@
 """Measures the built program beside other solvers on formulas that this script makes from numbers.
 
     bench/solving.py [--program PATH] [--cores N] [--runs N] [--seconds S] [--only WORD]
-                     [--out FILE.json] [--against FILE.json]
+                     [--out FILE.json] [--against FILE.json] [--also NAME=COMMAND]
 
 Families: uniform random three-literal formulas at the threshold of 4.26 clauses a variable, pigeonholes, coloured grids,
 parities along two chains, and the equivalence of two adders and of two multipliers. Each file has the verdict that is
@@ -11,7 +11,9 @@ with so many that run in turn, and minisat -no-pre and cadical where they are on
 with a limit of S seconds a file. For each file stand the verdict, the least processor seconds, the conflicts (of dp2ll those of
 the core that wins, by the trace of a run of its own that isn't timed), the conflicts a second (of dp2ll those of all cores)
 and the peak memory (of which some 16 MB are this script's own); at the end the geometric means over the files that every
-solver answered. `--out` keeps all figures, and `--against` compares dp2ll's seconds and its winner's conflicts with those of
+solver answered, and of dp2ll's conflicts a second by those of each other solver, over the files on which both have 100 or more. `--also`
+adds a solver whose text is like MiniSat's: with `bench/minisat_same_rules.patch` and `-ccmin-mode=0`, MiniSat keeps as many lemmas
+as dp2ll and as long ones, so the two are compared at the same work. `--out` keeps all figures, and `--against` compares dp2ll's seconds and its winner's conflicts with those of
 an earlier run, as of one core with four: conflicts are a fact of the rules, not of the machine.
 """
 import argparse
@@ -255,6 +257,17 @@ def summary(kept, programs):
                  sum(each[program]['verdict'] in ('SAT', 'UNSAT') for each in kept.values())))
 
 
+def ratios(kept, programs):
+    """What dp2ll's conflicts a second are by those of each other solver, where both have 100 conflicts or more."""
+    rate = lambda row: row['worked'] / max(row['seconds'], 1e-4)
+    for program, _, _ in programs[1:]:
+        both = [(rate(rows['dp2ll']) / rate(rows[program]), name) for name, rows in kept.items()
+                if min(rows['dp2ll'].get('worked') or 0, rows[program].get('worked') or 0) >= 100]
+        worst = ', '.join('%s %.2f' % (name, ratio) for ratio, name in sorted(both)[:3])
+        print("conflicts a second by those of %s: %.2f (geometric mean of %d files; least %s)"
+              % (program, mean([ratio for ratio, _ in both]), len(both), worst))
+
+
 def compare(kept, path):
     with open(path) as earlier:
         before = json.load(earlier)['files']
@@ -278,10 +291,12 @@ def main():
     parser.add_argument('--only', default='')
     parser.add_argument('--out')
     parser.add_argument('--against')
+    parser.add_argument('--also', action='append', default=[], metavar='NAME=COMMAND')
     args = parser.parse_args()
     programs = [('dp2ll', [args.program, 'solve'], ['--cores', str(args.cores)])]
     programs += [(name, words, []) for name, words in (('minisat -no-pre', ['minisat', '-no-pre']), ('cadical', ['cadical']))
                  if shutil.which(words[0])]
+    programs += [(name, command.split(), []) for name, _, command in (each.partition('=') for each in args.also)]
     kept, wrong = {}, []
     folder = tempfile.mkdtemp(prefix='solving')
     try:
@@ -296,6 +311,7 @@ def main():
     finally:
         shutil.rmtree(folder)
     summary(kept, programs)
+    ratios(kept, programs)
     if args.against:
         compare(kept, args.against)
     if args.out:
